@@ -1,0 +1,19 @@
+//! The outside of the server: a disk of twelve files with the moments at which it may crash, a link, a clock, a source
+//! and a sink, each with a body in memory and one over the machine's own.
+#![tactic(auto)]
+
+mod clock;
+mod disk;
+mod link;
+mod memory;
+mod place;
+mod sink;
+mod source;
+
+pub use clock::Clock;
+pub use disk::{Disk, DiskFault};
+pub use link::{Link, LinkFault, Piece};
+pub use memory::{MemDisk, Step};
+pub use place::{Family, Part, Place};
+pub use sink::{Sink, SinkFault};
+pub use source::{Source, SourceFault};
