@@ -1,0 +1,16 @@
+pub mod Entries
+pub mod Table
+pub mod Kv
+pub mod Apply
+pub mod Step
+pub mod Spelling
+pub mod Words
+pub mod Reading
+pub mod Frames
+pub mod Plan
+pub mod Regions
+pub mod Log
+pub mod MapState
+pub mod Image
+pub mod Crash
+pub mod Laws
