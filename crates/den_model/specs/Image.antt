@@ -14,7 +14,7 @@ use Rattle.den_model.specs.Apply.{applied}
 use Rattle.den_model.specs.Regions.{Region, regions}
 use Rattle.den_model.specs.Reading.{hard_state_in}
 use Rattle.den_model.specs.Log.{Log, empty_log, floor, above, log_from}
-use Rattle.den_model.specs.MapState.{MapState, empty_map, map_from}
+use Rattle.den_model.specs.MapState.{MapState, empty_map, map_from, part_of}
 
 -- twelve empty files
 abbrev pub no_files : Files
@@ -70,15 +70,11 @@ abbrev pub term_of : Option HardState → ℕ
 term_of None = 0
 term_of (Some h) = h.current_term
 
--- the durable part that a map stands for alone
-abbrev pub marked_part : MapState → ℕ → Durable
-marked_part s term = record { pairs = s.pairs; expiries = s.expiries; term = term; last_index = s.mark.index; last_term = s.mark.term }
-
 -- The map, and then the log's entries above its mark; none where they leave a gap.
 unfoldable pub durable : Log → Option HardState → MapState → Option Durable
 durable l h s =
     if nat_le (floor l) s.mark.index && run_from (s.mark.index + 1) (above s.mark.index l.entries)
-    then Some (applied_all (marked_part s (term_of h)) (above s.mark.index l.entries))
+    then Some (applied_all (part_of s (term_of h)) (above s.mark.index l.entries))
     else None
 
 abbrev pub ok : {A : Type 0} → Result A ℕ → Option A

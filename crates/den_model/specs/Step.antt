@@ -27,7 +27,9 @@ use Rattle.den_model.specs.declared.reply.WatchEventType.TheVariants as event
 use Rattle.den_model.specs.Entries.{LogEntry}
 use Rattle.den_model.specs.Table.{Table}
 use Rattle.den_model.specs.declared.held.Held.{Held}
-use Rattle.den_model.specs.Kv.{Durable, Watcher, Running, Kv}
+use Rattle.den_model.specs.declared.running.Running.{Running}
+use Rattle.den_model.specs.declared.running.Watcher.{Watcher}
+use Rattle.den_model.specs.Kv.{Durable, Kv}
 use Rattle.den_model.specs.Apply.{value_at, succeeds, applied, cleaned}
 
 pub data Step : Type 0 where

@@ -1,0 +1,56 @@
+//! Why a call ends early.
+ghost use Rattle.std.specs.Prelude.{◌≡◌};
+ghost use Rattle.den_codec.specs.declared.error.Error.TheVariants.{OutOfMemory};
+
+use std::alloc::{AllocError, AllocFailed};
+use thiserror::Error;
+
+/// Where a configuration is not valid.
+#[derive(Clone, Copy, Debug, PartialEq, Eq)]
+pub enum ConfigPlace {
+    InitialCluster,
+}
+
+/// Why a call ends early, one variant a cause.
+#[derive(Clone, Copy, Debug, PartialEq, Eq, Error)]
+pub enum Error {
+    #[error("out of memory")]
+    OutOfMemory,
+    #[error("storage fault")]
+    StorageIoError,
+    /// A file would need so many bytes, and may have no more than the limit.
+    #[error("disk limit reached")]
+    DiskFull { needed: u64, limit: u64 },
+    #[error("link fault")]
+    LinkFault,
+    /// The file of this number is corrupt at this byte.
+    #[error("data corruption in file {place} at {offset}")]
+    DataCorruption { place: u8, offset: u64 },
+    #[error("lease is not enabled")]
+    FeatureNotEnabled,
+    #[error("term or index exhausted")]
+    ProposeFailed,
+    /// The entry of this index does not stand above the one before it.
+    #[error("entry {index} is out of order")]
+    UnorderedChunk { index: u64 },
+    #[error("bad configuration")]
+    Config(ConfigPlace),
+    #[error("folder is not empty")]
+    NotEmpty,
+}
+
+impl From<AllocError> for Error {
+    ghost from_gives = { λ _ e. e ≡ OutOfMemory };
+
+    fn from(_: AllocError) -> Self {
+        Error::OutOfMemory
+    }
+}
+
+impl<T: Drop> From<AllocFailed<T>> for Error {
+    ghost from_gives = { λ _ e. e ≡ OutOfMemory };
+
+    fn from(_: AllocFailed<T>) -> Self {
+        Error::OutOfMemory
+    }
+}

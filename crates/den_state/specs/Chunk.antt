@@ -1,0 +1,26 @@
+-- Why a chunk of entries is refused.
+use Rattle.std.specs.Prelude.{◌≡◌, ◌<◌, ◌||◌, ℕ, Bool, true, false, List, [], ◌∷◌, Option, Some, None, nat_lt, if◌then◌else◌}
+use Rattle.den_codec.specs.declared.error.Error.{Error}
+use Rattle.den_codec.specs.declared.error.Error.TheVariants.{OutOfMemory, StorageIoError, DiskFull, FeatureNotEnabled, UnorderedChunk}
+use Rattle.den_model.specs.Entries.{LogEntry}
+use Rattle.den_model.specs.Step.{has_ttl}
+
+-- the first index that is not above the one before it, or above this one where it is the first
+abbrev pub out_of_order : ℕ → List LogEntry → Option ℕ
+out_of_order index [] = None
+out_of_order index (e ∷ es) = if nat_lt index e.index then out_of_order e.index es else Some e.index
+
+-- whether an entry has a time to live
+abbrev pub asks_lease : List LogEntry → Bool
+asks_lease [] = false
+asks_lease (e ∷ es) = has_ttl e.command || asks_lease es
+
+-- what may refuse these entries behind this mark: their order, then a time to live without a lease, then the disk
+-- and memory
+abbrev pub IsChunkRefusal : Type 0 → ℕ → ℕ → List LogEntry → Error → Type 0
+IsChunkRefusal rose most mark chunk (UnorderedChunk index) = out_of_order mark chunk ≡ Some index
+IsChunkRefusal rose most mark chunk FeatureNotEnabled = (out_of_order mark chunk ≡ None) × (asks_lease chunk ≡ true)
+IsChunkRefusal rose most mark chunk OutOfMemory = (out_of_order mark chunk ≡ None) × (asks_lease chunk ≡ false)
+IsChunkRefusal rose most mark chunk StorageIoError = (out_of_order mark chunk ≡ None) × (asks_lease chunk ≡ false) × rose
+IsChunkRefusal rose most mark chunk (DiskFull needed limit) = (out_of_order mark chunk ≡ None) × (asks_lease chunk ≡ false) × (limit < needed) × (limit ≡ most)
+IsChunkRefusal rose most mark chunk _ = ⊥

@@ -1,0 +1,61 @@
+//! What a state machine is.
+ghost use Rattle.std.specs.Prelude.{◌≡◌, true, false, IsTrue, Option, Some, None, OnOk, IfOk, IfErr, option_map};
+ghost use Rattle.den_disk.specs.declared.place.Family.TheVariants.{State as state_family};
+ghost use Rattle.den_disk.specs.Files.{Files, Content, IsImage};
+ghost use Rattle.den_disk.specs.Goes.{Rose, DiskGoesOn};
+ghost use Rattle.den_disk.specs.Families.{SameOf, SparesOthers, SparesOwn, SparesImages, OldOrNew};
+ghost use Rattle.den_model.specs.declared.held.Held.{Held};
+ghost use Rattle.den_model.specs.MapState.{MapState, map_applied_all, results_of, part_of};
+ghost use Rattle.den_model.specs.Apply.{value_at};
+ghost use Rattle.den_state.specs.Chunk.{out_of_order, asks_lease, IsChunkRefusal};
+
+use den_codec::{ApplyResult, Blob, Entry, Error, LogId, Rows};
+use den_disk::Disk;
+
+/// A map of pairs and expiries with its mark: index and term of the last entry that was applied.
+pub trait StateMachine<D: Disk>: Drop {
+    /// Pairs, expiries and mark.
+    ghost map: { Self → MapState };
+
+    /// What files give of a map.
+    ghost holds: { Files → Option MapState };
+
+    /// The map's files lie on the disk as its last call left them.
+    ghost rests: { Self → Content → Type 0 };
+
+    /// It has not failed.
+    ghost ready: { Self → Type 0 };
+
+    /// Applies entries in order, each swap seeing the writes before it, and answers whether each succeeded. A chunk out
+    /// of order, or with a time to live where no lease is configured, is refused with nothing changed. A crash inside
+    /// leaves the old map or the new one.
+    fn apply_chunk(&mut self, disk: &mut D, chunk: &[Entry]) -> Result<Rows<ApplyResult>, Error>
+        requires ready { ready self.old }
+        requires rests { IsTrue (D.kind disk.old).tells → rests self.old (D.content disk.old) }
+        ensures disk { DiskGoesOn D.kind D.moment D.images D.faults disk.old disk.new }
+        ensures own { IsTrue (D.kind disk.old).tells → OldOrNew holds (D.images disk.new) (D.moment disk.old) (D.moment disk.new) (map self.old) (map_applied_all (map self.old) chunk.now) }
+        ensures others { IsTrue (D.kind disk.old).tells → SparesImages state_family (D.images disk.old) (D.images disk.new) (D.moment disk.old) (D.moment disk.new) }
+        ensures spares { IsTrue (D.kind disk.old).tells → SparesOthers state_family (D.content disk.old) (D.content disk.new) }
+        ensures applied { OnOk result (map self.new ≡ map_applied_all (map self.old) chunk.now) }
+        ensures results { IfOk result (λ results. results ≡ results_of (map self.old) chunk.now) }
+        ensures in_order { OnOk result ((out_of_order (map self.old).mark.index chunk.now ≡ None) × (asks_lease chunk.now ≡ false)) }
+        ensures ready { OnOk result (ready self.new) }
+        ensures rests { OnOk result (IsTrue (D.kind disk.old).tells → rests self.new (D.content disk.new)) }
+        ensures refused { IfErr result (λ e. IsChunkRefusal (Rose (D.faults disk.old) (D.faults disk.new)) (D.kind disk.old).limit (map self.old).mark.index chunk.now e) };
+
+    /// The value at a key.
+    fn get(&self, key: &[u8]) -> Option<&Blob>
+        ensures { option_map (λ b. b.now) result ≡ value_at (part_of (map self.now) 0) key.now };
+
+    /// Index and term of the last entry that was applied.
+    fn last_applied(&self) -> LogId
+        ensures { result ≡ (map self.now).mark };
+
+    /// Only its own files count.
+    ghost rests_own: { (s : Self) (old new : Content) → SparesOwn state_family old new → rests s old → rests s new };
+
+    ghost holds_own: { (one other : Files) → SameOf state_family one other → holds other ≡ holds one };
+
+    /// Files that lie as it left them give its map, whatever a crash does to what is pending.
+    ghost rests_hold: { (s : Self) (c : Content) (files : Files) → ready s → rests s c → IsImage c files → holds files ≡ Some (map s) };
+}

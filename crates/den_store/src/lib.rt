@@ -1,0 +1,6 @@
+//! The log store and the store of the hard state.
+#![tactic(auto)]
+
+mod stores;
+
+pub use stores::{LogStore, MetaStore};

@@ -1,0 +1,96 @@
+//! What a log store and a store of the hard state are.
+ghost use Rattle.std.specs.Prelude.{◌≡◌, ◌+◌, true, IsTrue, Option, Some, OnOk, IfErr};
+ghost use Rattle.den_disk.specs.declared.place.Family.TheVariants.{Log as log_family, Meta as meta_family};
+ghost use Rattle.den_disk.specs.Files.{Files, Content, IsImage};
+ghost use Rattle.den_disk.specs.Goes.{Rose, DiskGoesOn};
+ghost use Rattle.den_disk.specs.Families.{SameOf, SparesOthers, SparesOwn, SparesImages, OldOrNew};
+ghost use Rattle.den_model.specs.Entries.{rise_from};
+ghost use Rattle.den_model.specs.Log.{Log, floor, changed, last_index};
+ghost use Rattle.den_model.specs.declared.region.LogRegion.TheVariants.{Append};
+ghost use Rattle.den_model.specs.declared.log_id.HardState.{HardState};
+ghost use Rattle.den_store.specs.Causes.{IsRefusal};
+
+use den_codec::{Entry, Error, HardState};
+use den_disk::Disk;
+
+/// A log: a boundary, up to which entries were purged, and entries by index, all above it.
+pub trait LogStore<D: Disk>: Drop {
+    /// Its boundary and its entries.
+    ghost log: { Self → Log };
+
+    /// What files give of a log.
+    ghost holds: { Files → Option Log };
+
+    /// The log's files lie on the disk as its last call left them.
+    ghost rests: { Self → Content → Type 0 };
+
+    /// It has not failed.
+    ghost ready: { Self → Type 0 };
+
+    /// Adds entries, in place of those held from the first one's index on. A crash inside leaves the old log or the new
+    /// one.
+    fn persist_entries(&mut self, disk: &mut D, entries: &[Entry]) -> Result<(), Error>
+        requires ready { ready self.old }
+        requires rests { IsTrue (D.kind disk.old).tells → rests self.old (D.content disk.old) }
+        requires rise { rise_from (floor (log self.old) + 1) entries.now ≡ true }
+        ensures disk { DiskGoesOn D.kind D.moment D.images D.faults disk.old disk.new }
+        ensures own { IsTrue (D.kind disk.old).tells → OldOrNew holds (D.images disk.new) (D.moment disk.old) (D.moment disk.new) (log self.old) (changed (log self.old) (Append entries.now)) }
+        ensures others { IsTrue (D.kind disk.old).tells → SparesImages log_family (D.images disk.old) (D.images disk.new) (D.moment disk.old) (D.moment disk.new) }
+        ensures spares { IsTrue (D.kind disk.old).tells → SparesOthers log_family (D.content disk.old) (D.content disk.new) }
+        ensures persisted { OnOk result (log self.new ≡ changed (log self.old) (Append entries.now)) }
+        ensures ready { OnOk result (ready self.new) }
+        ensures rests { OnOk result (IsTrue (D.kind disk.old).tells → rests self.new (D.content disk.new)) }
+        ensures refused { IfErr result (λ e. IsRefusal (Rose (D.faults disk.old) (D.faults disk.new)) (D.kind disk.old).limit e) };
+
+    /// The greatest index that is held, or the boundary's, or 0.
+    fn last_index(&self) -> u64
+        ensures { result ≡ last_index (log self.now) };
+
+    /// Only its own files count.
+    ghost rests_own: { (s : Self) (old new : Content) → SparesOwn log_family old new → rests s old → rests s new };
+
+    ghost holds_own: { (one other : Files) → SameOf log_family one other → holds other ≡ holds one };
+
+    /// Files that lie as it left them give its log, whatever a crash does to what is pending.
+    ghost rests_hold: { (s : Self) (c : Content) (files : Files) → ready s → rests s c → IsImage c files → holds files ≡ Some (log s) };
+}
+
+/// The last hard state that was saved.
+pub trait MetaStore<D: Disk>: Drop {
+    /// The last hard state, if one was saved.
+    ghost hard_state: { Self → Option HardState };
+
+    /// What files give of hard states.
+    ghost holds: { Files → Option (Option HardState) };
+
+    /// The files of the hard state lie on the disk as its last call left them.
+    ghost rests: { Self → Content → Type 0 };
+
+    /// It has not failed.
+    ghost ready: { Self → Type 0 };
+
+    /// Saves a hard state. A crash inside leaves the old one or the new one.
+    fn save_hard_state(&mut self, disk: &mut D, state: &HardState) -> Result<(), Error>
+        requires ready { ready self.old }
+        requires rests { IsTrue (D.kind disk.old).tells → rests self.old (D.content disk.old) }
+        ensures disk { DiskGoesOn D.kind D.moment D.images D.faults disk.old disk.new }
+        ensures own { IsTrue (D.kind disk.old).tells → OldOrNew holds (D.images disk.new) (D.moment disk.old) (D.moment disk.new) (hard_state self.old) (Some state.now) }
+        ensures others { IsTrue (D.kind disk.old).tells → SparesImages meta_family (D.images disk.old) (D.images disk.new) (D.moment disk.old) (D.moment disk.new) }
+        ensures spares { IsTrue (D.kind disk.old).tells → SparesOthers meta_family (D.content disk.old) (D.content disk.new) }
+        ensures saved { OnOk result (hard_state self.new ≡ Some state.now) }
+        ensures ready { OnOk result (ready self.new) }
+        ensures rests { OnOk result (IsTrue (D.kind disk.old).tells → rests self.new (D.content disk.new)) }
+        ensures refused { IfErr result (λ e. IsRefusal (Rose (D.faults disk.old) (D.faults disk.new)) (D.kind disk.old).limit e) };
+
+    /// The last hard state that was saved.
+    fn load_hard_state(&self) -> Option<HardState>
+        ensures { result ≡ hard_state self.now };
+
+    /// Only its own files count.
+    ghost rests_own: { (s : Self) (old new : Content) → SparesOwn meta_family old new → rests s old → rests s new };
+
+    ghost holds_own: { (one other : Files) → SameOf meta_family one other → holds other ≡ holds one };
+
+    /// Files that lie as it left them give its hard state, whatever a crash does to what is pending.
+    ghost rests_hold: { (s : Self) (c : Content) (files : Files) → ready s → rests s c → IsImage c files → holds files ≡ Some (hard_state s) };
+}
