@@ -1,0 +1,6 @@
+//! The engine over log, hard state and map, and the loop that serves frames.
+#![tactic(auto)]
+
+mod stepper;
+
+pub use stepper::{StepOut, Stepper};

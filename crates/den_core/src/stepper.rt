@@ -1,0 +1,66 @@
+//! What the loop over frames sees of an engine.
+ghost use Rattle.std.specs.Prelude.{◌≡◌, ◌<◌, ◌≤◌, ◌^◌, ◌-◌, ℕ, IsTrue, List, [], Option, Some, OnOk, IfOk, IfErr};
+ghost use Rattle.den_disk.specs.Files.{Files, Content, IsImage};
+ghost use Rattle.den_disk.specs.Goes.{Rose, DiskGoesOn};
+ghost use Rattle.den_model.specs.Kv.{Durable, Kv};
+ghost use Rattle.den_model.specs.Plan.{after, output, opening, turn};
+ghost use Rattle.den_model.specs.Crash.{Survives};
+ghost use Rattle.den_store.specs.Causes.{IsRefusal};
+ghost use Rattle.den_core.specs.Answers.{frames_of};
+
+use den_codec::{Error, Frame, Reply, Rows, WatchEvent};
+use den_disk::Disk;
+
+/// A step's reply, and the events that it raised.
+#[derive(Debug, Drop)]
+pub struct StepOut {
+    pub reply: Reply,
+    pub events: Rows<WatchEvent>,
+}
+
+/// A state with its files, which makes steps.
+pub trait Stepper<D: Disk>: Drop {
+    /// All that it holds.
+    ghost kv: { Self → Kv };
+
+    /// What files stand for.
+    ghost holds: { Files → Option Durable };
+
+    /// Its files lie on the disk as its last call left them.
+    ghost rests: { Self → Content → Type 0 };
+
+    /// It has not failed.
+    ghost ready: { Self → Type 0 };
+
+    /// Makes the opening's steps.
+    fn open_at(&mut self, disk: &mut D, moment: u64) -> Result<(), Error>
+        requires ready { ready self.old }
+        requires rests { IsTrue (D.kind disk.old).tells → rests self.old (D.content disk.old) }
+        requires moment { 1 ≤ moment }
+        requires term { (kv self.old).durable.term < 2 ^ 64 - 1 }
+        requires index { (kv self.old).durable.last_index < 2 ^ 64 - 1 }
+        ensures disk { DiskGoesOn D.kind D.moment D.images D.faults disk.old disk.new }
+        ensures survives { IsTrue (D.kind disk.old).tells
+            → Survives holds (D.images disk.new) (D.moment disk.old) (D.moment disk.new) [] (kv self.old) (opening (kv self.old) moment) }
+        ensures state { OnOk result (kv self.new ≡ after (kv self.old) (opening (kv self.old) moment)) }
+        ensures ready { OnOk result (ready self.new) }
+        ensures rests { OnOk result (IsTrue (D.kind disk.old).tells → rests self.new (D.content disk.new)) }
+        ensures refused { IfErr result (λ e. IsRefusal (Rose (D.faults disk.old) (D.faults disk.new)) (D.kind disk.old).limit e) };
+
+    /// Makes a frame's steps, and answers what is to be sent.
+    fn step(&mut self, disk: &mut D, frame: Frame, moment: u64) -> Result<StepOut, Error>
+        requires ready { ready self.old }
+        requires rests { IsTrue (D.kind disk.old).tells → rests self.old (D.content disk.old) }
+        requires moment { 1 ≤ moment }
+        ensures disk { DiskGoesOn D.kind D.moment D.images D.faults disk.old disk.new }
+        ensures survives { IsTrue (D.kind disk.old).tells
+            → Survives holds (D.images disk.new) (D.moment disk.old) (D.moment disk.new) [] (kv self.old) (turn (kv self.old) frame moment) }
+        ensures state { OnOk result (kv self.new ≡ after (kv self.old) (turn (kv self.old) frame moment)) }
+        ensures answer { IfOk result (λ out. frames_of out.reply out.events ≡ output (kv self.old) (turn (kv self.old) frame moment)) }
+        ensures ready { OnOk result (ready self.new) }
+        ensures rests { OnOk result (IsTrue (D.kind disk.old).tells → rests self.new (D.content disk.new)) }
+        ensures refused { IfErr result (λ e. IsRefusal (Rose (D.faults disk.old) (D.faults disk.new)) (D.kind disk.old).limit e) };
+
+    /// Files that lie as it left them stand for its durable part, whatever a crash does to what is pending.
+    ghost rests_hold: { (s : Self) (c : Content) (files : Files) → ready s → rests s c → IsImage c files → holds files ≡ Some (kv s).durable };
+}
