@@ -6,3 +6,5 @@ pub mod RequestSpells
 pub mod Runs
 pub mod Order
 pub mod Tail
+pub mod WorkedRuns
+pub mod WorkedImages
