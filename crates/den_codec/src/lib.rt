@@ -1,8 +1,14 @@
 //! The words of values, errors and the configuration.
 #![tactic(auto)]
 
+mod config;
 mod error;
+mod standard;
 
+pub use config::{
+    BackoffPolicy, ClusterConfig, LeaseConfig, NetworkConfig, RaftConfig, RaftNodeConfig,
+    SoloConfig, WatchConfig,
+};
 pub use den_model::{
     ApplyResult, Blob, ClientReadRequest, ClientResponse, ClientResponsePayload,
     ClientWriteRequest, ClusterMembership, Command, Entry, ErrorCode, Frame, HardState, Held,
