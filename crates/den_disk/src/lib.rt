@@ -4,16 +4,21 @@
 
 mod clock;
 mod disk;
+mod fault_count;
+mod host_clock;
 mod link;
 mod memory;
 mod place;
 mod sink;
 mod source;
+mod std_sink;
 
 pub use clock::Clock;
 pub use disk::{Disk, DiskFault};
+pub use host_clock::HostClock;
 pub use link::{Link, LinkFault, Piece};
 pub use memory::{MemDisk, Step};
 pub use place::{Family, Part, Place};
 pub use sink::{Sink, SinkFault};
 pub use source::{Source, SourceFault};
+pub use std_sink::StdSink;
