@@ -9,8 +9,10 @@ mod host_clock;
 mod link;
 mod memory;
 mod place;
+mod read_ahead;
 mod sink;
 mod source;
+mod std_link;
 mod std_sink;
 
 pub use clock::Clock;
@@ -21,4 +23,5 @@ pub use memory::{MemDisk, Step};
 pub use place::{Family, Part, Place};
 pub use sink::{Sink, SinkFault};
 pub use source::{Source, SourceFault};
+pub use std_link::StdLink;
 pub use std_sink::StdSink;
