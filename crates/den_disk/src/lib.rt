@@ -4,19 +4,23 @@
 
 mod clock;
 mod disk;
-mod fault_count;
+mod file_source;
+mod folder_disk;
 mod host_clock;
 mod link;
 mod memory;
 mod place;
-mod read_ahead;
+mod place_file;
 mod sink;
 mod source;
 mod std_link;
 mod std_sink;
+mod system_call;
 
 pub use clock::Clock;
 pub use disk::{Disk, DiskFault};
+pub use file_source::FileSource;
+pub use folder_disk::FolderDisk;
 pub use host_clock::HostClock;
 pub use link::{Link, LinkFault, Piece};
 pub use memory::{MemDisk, Step};

@@ -1,7 +1,7 @@
 //! The machine's standard error.
 ghost use Rattle.std.specs.Prelude.{◌≡◌, false, []};
 
-use crate::fault_count::count_fault;
+use crate::system_call::counted;
 use crate::{Sink, SinkFault};
 use std::io::Write;
 
@@ -27,17 +27,11 @@ impl<W: Write> Sink for StdSink<W> {
     ghost faults = { λ sink. sink.faults };
 
     fn write(&mut self, piece: &[u8]) -> Result<(), SinkFault> {
-        let done = self
+        let written = self
             .stderr
             .write_all(piece)
             .and_then(|()| self.stderr.flush());
-        match done {
-            Ok(()) => Ok(()),
-            Err(_) => {
-                count_fault(&mut self.faults);
-                Err(SinkFault)
-            }
-        }
+        counted(&mut self.faults, written, SinkFault)
     }
 }
 
