@@ -4,7 +4,9 @@
 
 mod clock;
 mod disk;
+mod faults;
 mod link;
+mod mem_link;
 mod memory;
 mod place;
 mod sink;
@@ -13,6 +15,7 @@ mod source;
 pub use clock::Clock;
 pub use disk::{Disk, DiskFault};
 pub use link::{Link, LinkFault, Piece};
+pub use mem_link::MemLink;
 pub use memory::{MemDisk, Step};
 pub use place::{Family, Part, Place};
 pub use sink::{Sink, SinkFault};
