@@ -1,4 +1,4 @@
-use Rattle.std.proofs.Common.{◌≡◌, ◌++◌, ◌∙◌, arith, refl, ap, take}
+use Rattle.std.proofs.Common.{◌++◌, ◌∙◌, arith, refl, ap, take}
 use Rattle.std.specs.List.{zip}
 use Rattle.std.proofs.lemmas.List.{take_all}
 use Rattle.den_disk.specs.Goes.{stamped}
