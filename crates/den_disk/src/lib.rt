@@ -21,6 +21,7 @@ mod source;
 mod std_link;
 mod std_sink;
 mod system_call;
+mod spoil;
 
 pub use clock::Clock;
 pub use disk::{Disk, DiskFault};

@@ -161,3 +161,57 @@ impl Link for MemLink {
         Ok(())
     }
 }
+
+#[cfg(test)]
+mod tests {
+    use super::*;
+    use crate::MemDisk;
+    use std::test::Fail;
+
+    #[test]
+    fn gives_the_input_in_cuts(rt: HostRuntime) -> Result<(), Fail> {
+        let input = b"abcdefgh".to_vec(rt.alloc())?;
+        let cuts = [1, 0, 3].to_vec(rt.alloc())?;
+        let mut link = MemLink::new(rt.alloc(), input, cuts);
+        let mut buffer = [0; 2];
+        let pieces = [(1, b"a0"), (1, b"b0"), (2, b"cd"), (2, b"ef"), (2, b"gh")];
+        for (n, want) in pieces {
+            buffer = *b"00";
+            assert_eq!(rt; link.read(&mut buffer)?, Piece::Got(n));
+            assert_eq!(rt; buffer, *want);
+        }
+        assert_eq!(rt; link.read(&mut buffer)?, Piece::End);
+        Ok(())
+    }
+
+    #[test]
+    fn fails_a_read_where_it_is_told(rt: HostRuntime) -> Result<(), Fail> {
+        let input = b"abcdef".to_vec(rt.alloc())?;
+        let mut link = MemLink::new(rt.alloc(), input, Vec::new(rt.alloc()));
+        let mut buffer = [0; 4];
+        link.fail_read_after(3);
+        assert_eq!(rt; link.read(&mut buffer), Ok(Piece::Got(3)));
+        assert_eq!(rt; link.read(&mut buffer), Err(LinkFault));
+        link.fail_read_after(6);
+        link.set_budget(5);
+        assert_eq!(rt; link.read(&mut buffer), Ok(Piece::Got(2)));
+        assert_eq!(rt; link.read(&mut buffer), Err(LinkFault));
+        assert_eq!(rt; link.faults, 2);
+        Ok(())
+    }
+
+    #[test]
+    fn sends_what_fits(rt: HostRuntime) -> Result<(), Fail> {
+        let mut disk = MemDisk::new(rt.alloc());
+        let mut link = MemLink::new(rt.alloc(), Vec::new(rt.alloc()), Vec::new(rt.alloc()));
+        link.fail_send_after(5);
+        link.send(b"ab", &disk)?;
+        disk.sync()?;
+        assert_eq!(rt; link.send(b"cdef", &disk), Err(LinkFault));
+        assert_eq!(rt; link.send(b"g", &disk), Err(LinkFault));
+        assert_eq!(rt; link.sent(), b"abcde".as_slice());
+        assert_eq!(rt; link.moments.as_slice(), [0, 0, 2, 2, 2].as_slice());
+        assert_eq!(rt; link.faults, 2);
+        Ok(())
+    }
+}
