@@ -6,6 +6,7 @@ mod fields;
 mod log_words;
 mod reads;
 mod region_words;
+mod state_words;
 mod word;
 
 pub use den_model::{
@@ -19,4 +20,5 @@ pub use den_model::{
 pub use error::{ConfigPlace, Error};
 pub use reads::ReadError;
 pub use region_words::write_append;
+pub use state_words::write_records;
 pub use word::Word;
