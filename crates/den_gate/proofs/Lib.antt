@@ -3,3 +3,4 @@ pub mod Beside
 pub mod Calm
 pub mod Runs
 pub mod Frame
+pub mod Families
