@@ -4,3 +4,4 @@ pub mod Calm
 pub mod Runs
 pub mod Frame
 pub mod Families
+pub mod Settling
