@@ -5,3 +5,4 @@ pub mod Runs
 pub mod Frame
 pub mod Families
 pub mod Settling
+pub mod Refusals
