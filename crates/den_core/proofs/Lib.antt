@@ -1,0 +1,2 @@
+pub mod Durables
+pub mod Spared

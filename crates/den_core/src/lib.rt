@@ -2,6 +2,8 @@
 #![tactic(auto)]
 
 mod ask;
+mod engine;
 mod stepper;
 
+pub use engine::Engine;
 pub use stepper::{StepOut, Stepper};
