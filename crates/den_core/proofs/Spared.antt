@@ -116,3 +116,7 @@ moves_then holds old_at new_at from mid to x y past one two = record {
       (λ late. ⊎_elim (λ old. inr old) (λ new. inr new) (two.each t files late ended at))
       (cases_lt t mid);
 }
+
+-- nothing moved
+pub gives_old : {X : Type 0} (holds : Files → Option X) (images : ℕ → Files → Type 0) (from to : ℕ) (x y : X) → Gives holds images from to x → OldOrNew holds images from to x y
+gives_old holds images from to x y given = record { each = λ t files begun ended at. inl (given.each t files begun ended at) }

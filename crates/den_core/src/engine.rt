@@ -122,3 +122,68 @@ fn commit<D: Disk, G: LogStore<D>, T: MetaStore<D>, M: StateMachine<D>>(
     let results = engine.state.apply_chunk(disk, &chunk)?;
     Ok(results.as_slice()[0].succeeded)
 }
+
+/// Makes a frame's step, and answers its reply. A leader that nobody watches raises no event.
+fn answer<D: Disk, G: LogStore<D>, T: MetaStore<D>, M: StateMachine<D>>(
+    engine: &mut Engine<G, T, M>,
+    disk: &mut D,
+    frame: Frame,
+    moment: u64,
+) -> Result<Reply, Error>
+    requires ready { IsReady (G.ready engine.old.log) (T.ready engine.old.meta) (M.ready engine.old.state)
+        (G.log engine.old.log) (M.map engine.old.state) engine.old.running }
+    requires rests { IsTrue (D.kind disk.old).tells → AllRest (G.rests engine.old.log (D.content disk.old))
+        (T.rests engine.old.meta (D.content disk.old)) (M.rests engine.old.state (D.content disk.old)) }
+    requires moment { 1 ≤ moment }
+    requires built { IsBuiltFrame frame }
+    ensures disk { DiskGoesOn D.kind D.moment D.images D.faults disk.old disk.new }
+    ensures moves { IsTrue (D.kind disk.old).tells
+        → OldOrNew (λ files. joined (G.holds files) (T.holds files) (M.holds files)) (D.images disk.new) (D.moment disk.old) (D.moment disk.new)
+        (durable_of (T.hard_state engine.old.meta) (M.map engine.old.state))
+        (answer (kv_of (T.hard_state engine.old.meta) (M.map engine.old.state) engine.old.running) moment frame).after.durable }
+    ensures answered { IfOk result (λ reply. answer (kv_of (T.hard_state engine.old.meta) (M.map engine.old.state) engine.old.running) moment frame
+        ≡ record { after = kv_of (T.hard_state engine.new.meta) (M.map engine.new.state) engine.new.running; reply = Some reply; events = [] }) }
+    ensures ready { OnOk result (IsReady (G.ready engine.new.log) (T.ready engine.new.meta) (M.ready engine.new.state)
+        (G.log engine.new.log) (M.map engine.new.state) engine.new.running) }
+    ensures rests { OnOk result (IsTrue (D.kind disk.old).tells → AllRest (G.rests engine.new.log (D.content disk.new))
+        (T.rests engine.new.meta (D.content disk.new)) (M.rests engine.new.state (D.content disk.new))) }
+    ensures refused { IfErr result (λ e. IsRefusal (Rose (D.faults disk.old) (D.faults disk.new)) (D.kind disk.old).limit e) }
+{
+    match ask::<D, M>(engine.alloc, &engine.state, &engine.running, frame)? {
+        Asked::Commit(command) => {
+            let succeeded = commit(engine, disk, command, moment)?;
+            Ok(answered(ClientResponsePayload::Write { succeeded }))
+        }
+        Asked::Say(reply) => Ok(reply),
+    }
+}
+
+impl<D: Disk, G: LogStore<D>, T: MetaStore<D>, M: StateMachine<D>> Stepper<D>
+    for Engine<G, T, M> {
+    ghost use Rattle.den_core.specs.Joined.{joined_here};
+
+    ghost kv = { λ e. kv_of (T.hard_state e.meta) (M.map e.state) e.running };
+
+    ghost holds = { λ files. joined (G.holds files) (T.holds files) (M.holds files) };
+
+    ghost rests = { λ e content. AllRest (G.rests e.log content) (T.rests e.meta content) (M.rests e.state content) };
+
+    ghost ready = { λ e. IsReady (G.ready e.log) (T.ready e.meta) (M.ready e.state) (G.log e.log) (M.map e.state) e.running };
+
+    ghost rests_hold = { λ e content files ready rests image. joined_here (G.holds files) (T.holds files) (M.holds files) (G.log e.log) (T.hard_state e.meta) (M.map e.state) ready.caught_up
+        (G.rests_hold e.log content files ready.log rests.log image) (T.rests_hold e.meta content files ready.meta rests.meta image) (M.rests_hold e.state content files ready.state rests.state image) };
+
+    fn open_at(&mut self, disk: &mut D, moment: u64) -> Result<(), Error> {
+        raise(self, disk)?;
+        commit(self, disk, Command::Noop, moment)?;
+        Ok(())
+    }
+
+    fn step(&mut self, disk: &mut D, frame: Frame, moment: u64) -> Result<StepOut, Error> {
+        let reply = answer(self, disk, frame, moment)?;
+        Ok(StepOut {
+            reply,
+            events: Rows::of(Vec::new(self.alloc)),
+        })
+    }
+}

@@ -1,7 +1,7 @@
 use Rattle.std.proofs.Common.{◌+◌, Some, ap, ◌∙◌}
 use Rattle.std.proofs.lemmas.Result.{on_ok_weaker}
 use Rattle.den_model.specs.MapState.{part_of}
-use Rattle.den_core.proofs.Durables.{durable_is}
+use Rattle.den_core.specs.Joined.{durable_is}
 use Rattle.den_core.proofs.Spared.{gives_now, spared, apart_own, meta_moves, log_meta, state_meta}
 use Rattle.den_core.proofs.engine.raise.Goals as goal
 
