@@ -31,6 +31,33 @@ pub struct Engine<G, T, M> {
     alloc: Global,
 }
 
+impl<G, T, M> Engine<G, T, M> {
+    /// Of stores that go together: the map has each entry of the log.
+    pub fn new<D: Disk>(alloc: Global, log: G, meta: T, state: M, running: Running) -> Engine<G, T, M>
+    where
+        G: LogStore<D>,
+        T: MetaStore<D>,
+        M: StateMachine<D>,
+        requires log_ready { G.ready log }
+        requires meta_ready { T.ready meta }
+        requires state_ready { M.ready state }
+        requires caught_up { IsCaughtUp (G.log log) (M.map state) }
+        requires plain { IsPlain running }
+        ensures kv { kv_of (T.hard_state result.meta) (M.map result.state) result.running ≡ kv_of (T.hard_state meta) (M.map state) running }
+        ensures ready { IsReady (G.ready result.log) (T.ready result.meta) (M.ready result.state) (G.log result.log) (M.map result.state) result.running }
+        ensures rests { (content : Content) → AllRest (G.rests log content) (T.rests meta content) (M.rests state content)
+            → AllRest (G.rests result.log content) (T.rests result.meta content) (M.rests result.state content) }
+    {
+        Engine {
+            log,
+            meta,
+            state,
+            running,
+            alloc,
+        }
+    }
+}
+
 /// The current term, 0 before any was saved.
 fn current_term<D: Disk, T: MetaStore<D>>(meta: &T) -> u64
     ensures { result ≡ term_of (T.hard_state meta.now) }
