@@ -1,6 +1,9 @@
 //! The engine over log, hard state and map, and the loop that serves frames.
 #![tactic(auto)]
 
+mod ask;
+mod engine;
 mod stepper;
 
+pub use engine::Engine;
 pub use stepper::{StepOut, Stepper};

@@ -1,0 +1,4 @@
+pub mod Durables
+pub mod Spared
+pub mod Quiet
+pub mod Steps

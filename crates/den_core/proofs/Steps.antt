@@ -1,0 +1,51 @@
+-- The opening's steps and a turn's, where no lease is configured.
+use Rattle.std.proofs.Common.{◌≡◌, ℕ, ◌≤◌, ◌+◌, ◌&&◌, ◌++◌, Bool, false, List, [], ◌∷◌, Option, Some, None, nat_le, if◌then◌else◌, refl, sym, ◌∙◌, ap, subst}
+use Rattle.den_disk.specs.Families.{OldOrNew}
+use Rattle.den_disk.specs.Files.{Files}
+use Rattle.den_model.specs.declared.command.Command.TheVariants as command
+use Rattle.den_model.specs.declared.request.Frame.{Frame}
+use Rattle.den_model.specs.Apply.{applied}
+use Rattle.den_model.specs.Crash.{Survives}
+use Rattle.den_model.specs.Kv.{Durable, Kv}
+use Rattle.den_model.specs.Plan.{after, opening, turn}
+use Rattle.den_model.specs.Step.{Raise, Noop, Cleanup, Ask, Step, answer, next_entry}
+use Rattle.den_model.specs.declared.log_id.HardState.{HardState}
+use Rattle.den_model.specs.declared.running.Running.{Running}
+use Rattle.den_model.specs.MapState.{MapState}
+use Rattle.den_core.specs.Parts.{kv_of, raised_of}
+use Rattle.den_core.proofs.Quiet.{moves, longer, quiet_on}
+
+-- no cleanup is made
+opening_is : (kv : Kv) (moment : ℕ) → kv.running.setting.lease ≡ false → opening kv moment ≡ Raise ∷ Noop moment ∷ []
+opening_is kv moment no_lease = ap (λ b. Raise ∷ Noop moment ∷ (if b then Cleanup moment ∷ [] else [])) no_lease
+
+turn_is : (kv : Kv) (frame : Frame) (moment : ℕ) → kv.running.setting.lease ≡ false → turn kv frame moment ≡ Ask frame moment ∷ []
+turn_is kv frame moment no_lease = ap (λ b. (if b && elim kv.running.cleaned [ None ↦ false | Some c ↦ nat_le (c + kv.running.setting.interval) moment ] then Cleanup moment ∷ [] else []) ++ Ask frame moment ∷ []) no_lease
+
+-- the term was raised, or was not
+pub opening_begun : (holds : Files → Option Durable) (images : ℕ → Files → Type 0) (from to : ℕ) (kv : Kv) (moment : ℕ) → kv.running.setting.lease ≡ false
+    → OldOrNew holds images from to kv.durable (after kv (Raise ∷ [])).durable → Survives holds images from to [] kv (opening kv moment)
+opening_begun holds images from to kv moment no_lease one = subst (λ steps. Survives holds images from to [] kv steps) (sym (opening_is kv moment no_lease))
+    (longer holds images from to kv (Raise ∷ []) (Noop moment ∷ []) (moves holds images from to kv Raise one))
+
+-- it was, and its first entry was made, or was not
+pub opening_made : (holds : Files → Option Durable) (old_at new_at : ℕ → Files → Type 0) (from mid to : ℕ) (kv between : Kv) (moment : ℕ) → kv.running.setting.lease ≡ false
+    → between ≡ after kv (Raise ∷ []) → ((t : ℕ) (files : Files) → t ≤ mid → new_at t files → old_at t files)
+    → OldOrNew holds old_at from mid kv.durable (after kv (Raise ∷ [])).durable
+    → OldOrNew holds new_at mid to between.durable (applied between.durable (next_entry between moment command.Noop))
+    → Survives holds new_at from to [] kv (opening kv moment)
+opening_made holds old_at new_at from mid to kv between moment no_lease is past one two = subst (λ steps. Survives holds new_at from to [] kv steps) (sym (opening_is kv moment no_lease))
+    (quiet_on holds old_at new_at from mid to kv between (Raise ∷ []) (Noop moment ∷ []) past (moves holds old_at from mid kv Raise one) is
+    (moves holds new_at mid to between (Noop moment) two))
+
+-- a frame's step was made, or was not
+pub turn_made : (holds : Files → Option Durable) (images : ℕ → Files → Type 0) (from to : ℕ) (kv : Kv) (frame : Frame) (moment : ℕ) → kv.running.setting.lease ≡ false
+    → OldOrNew holds images from to kv.durable (answer kv moment frame).after.durable → Survives holds images from to [] kv (turn kv frame moment)
+turn_made holds images from to kv frame moment no_lease one = subst (λ steps. Survives holds images from to [] kv steps) (sym (turn_is kv frame moment no_lease))
+    (moves holds images from to kv (Ask frame moment) one)
+
+-- what a raise leaves
+pub raised_is : (h h2 : Option HardState) (s s2 : MapState) (running running2 : Running) → h2 ≡ Some (raised_of running h) → s2 ≡ s → running2 ≡ running
+    → kv_of h2 s2 running2 ≡ after (kv_of h s running) (Raise ∷ [])
+raised_is h h2 s s2 running running2 saved same_map same_running =
+    ap (λ x. kv_of x s2 running2) saved ∙ ap (λ x. kv_of (Some (raised_of running h)) x running2) same_map ∙ ap (λ x. kv_of (Some (raised_of running h)) s x) same_running

@@ -1,0 +1,143 @@
+use Rattle.std.proofs.Common.{◌≡◌, ◌+◌, ◌∷◌, [], IsTrue, Some, sym, ap, subst, ◌∙◌}
+use Rattle.den_disk.specs.Families.{OldOrNew}
+use Rattle.den_model.specs.Apply.{applied}
+use Rattle.den_model.specs.Entries.{LogEntry}
+use Rattle.den_model.specs.Image.{term_of, joined}
+use Rattle.den_model.specs.Step.{next_entry}
+use Rattle.den_core.specs.Joined.{durable_is}
+use Rattle.den_core.specs.Parts.{durable_of, kv_of}
+use Rattle.den_core.proofs.Durables.{logged_is, applied_again, caught_up_now, next_is}
+use Rattle.den_core.proofs.Spared.{Gives, gives_now, spared, apart_own, log_moves, state_moves, moves_then, meta_log, state_log, log_state, meta_state}
+use Rattle.den_core.proofs.engine.commit.Goals as goal
+
+-- the entry joined the log, or did not
+pub returns-in_err-persist_entries-clause-moves : goal.returns-in_err-persist_entries-clause-moves
+returns-in_err-persist_entries-clause-moves g c = λ told.
+    let D = g.D.Disk in
+    let engine = c.args.engine.now in
+    let disk = c.args.disk.now in
+    let persist = c.persist_entries.ensures in
+    let h = g.T.MetaStore.hard_state engine.meta in
+    let s = g.M.StateMachine.map engine.state in
+    let is = next_is h s engine.running _ _ c.args.moment c.args.command c.of.result c.of.ensures (ap (λ i. i.index) c.last_applied-index.ensures) c.current_term-term.ensures in
+    let next = ap (λ e. e.index) is in
+    subst (λ e. OldOrNew (λ files. joined (g.G.LogStore.holds files) (g.T.MetaStore.holds files) (g.M.StateMachine.holds files)) (D.images c.persist_entries.new.disk) (D.moment disk) (D.moment c.persist_entries.new.disk) (durable_of h s) (applied (durable_of h s) e)) is
+    (log_moves g.G.LogStore.holds g.T.MetaStore.holds g.M.StateMachine.holds _ _ _ _ _ _ _ _ _
+    (durable_is (g.G.LogStore.log engine.log) h s c.requires.ready.caught_up)
+    (logged_is (g.G.LogStore.log engine.log) s c.of.result c.requires.ready.caught_up next h)
+    (persist.own told)
+    (spared _ _ _ _ _ _ _ _ meta_log g.met.T.MetaStore.holds_own
+    (gives_now _ (g.T.MetaStore.rests engine.meta) _ _ _ _ (λ files. g.met.D.Disk.images_now disk files told)
+    (λ files rest at. g.met.T.MetaStore.rests_hold engine.meta (D.content disk) files c.requires.ready.meta rest at) (c.requires.rests told).meta) (persist.others told))
+    (spared _ _ _ _ _ _ _ _ state_log g.met.M.StateMachine.holds_own
+    (gives_now _ (g.M.StateMachine.rests engine.state) _ _ _ _ (λ files. g.met.D.Disk.images_now disk files told)
+    (λ files rest at. g.met.M.StateMachine.rests_hold engine.state (D.content disk) files c.requires.ready.state rest at) (c.requires.rests told).state) (persist.others told)))
+
+-- the map's files lie as before behind the append
+pub apply_chunk-requires-clause-rests : goal.apply_chunk-requires-clause-rests
+apply_chunk-requires-clause-rests g c = λ then.
+    let persist = c.in_ok-persist_entries.ensures in
+    let told : IsTrue (g.D.Disk.kind c.args.disk.now).tells = subst (λ k. IsTrue k.tells) persist.disk.same then in
+    let engine = c.args.engine.now in
+    g.met.M.StateMachine.rests_own engine.state _ _ (apart_own _ _ _ _ state_log (persist.spares told)) (c.requires.rests told).state
+
+pub returns-in_err-results-clause-moves : goal.returns-in_err-results-clause-moves
+returns-in_err-results-clause-moves g c = λ told.
+    let D = g.D.Disk in
+    let engine = c.args.engine.now in
+    let disk = c.args.disk.now in
+    let between = c.persist_entries.new.disk in
+    let persist = c.in_ok-persist_entries.ensures in
+    let apply = c.apply_chunk.ensures in
+    let then : IsTrue (D.kind between).tells = subst (λ k. IsTrue k.tells) (sym persist.disk.same) told in
+    let l = g.G.LogStore.log engine.log in
+    let h = g.T.MetaStore.hard_state engine.meta in
+    let s = g.M.StateMachine.map engine.state in
+    let is = next_is h s engine.running _ _ c.args.moment c.args.command c.of.result c.of.ensures (ap (λ i. i.index) c.last_applied-index.ensures) c.current_term-term.ensures in
+    let next = ap (λ e. e.index) is in
+    let caught = c.requires.ready.caught_up in
+    let meta_rests = g.met.T.MetaStore.rests_own engine.meta _ _ (apart_own _ _ _ _ meta_log (persist.spares told)) (c.requires.rests told).meta in
+    subst (λ e. OldOrNew (λ files. joined (g.G.LogStore.holds files) (g.T.MetaStore.holds files) (g.M.StateMachine.holds files)) (D.images c.apply_chunk.new.disk) (D.moment disk) (D.moment c.apply_chunk.new.disk) (durable_of h s) (applied (durable_of h s) e)) is
+    (moves_then _ _ _ _ (D.moment between) _ _ _ (apply.disk.told then).past
+    (log_moves g.G.LogStore.holds g.T.MetaStore.holds g.M.StateMachine.holds _ _ _ _ _ _ _ _ _
+    (durable_is l h s caught) (logged_is l s c.of.result caught next h)
+    (persist.own told)
+    (spared _ _ _ _ _ _ _ _ meta_log g.met.T.MetaStore.holds_own
+    (gives_now _ (g.T.MetaStore.rests engine.meta) _ _ _ _ (λ files. g.met.D.Disk.images_now disk files told)
+    (λ files rest at. g.met.T.MetaStore.rests_hold engine.meta (D.content disk) files c.requires.ready.meta rest at) (c.requires.rests told).meta) (persist.others told))
+    (spared _ _ _ _ _ _ _ _ state_log g.met.M.StateMachine.holds_own
+    (gives_now _ (g.M.StateMachine.rests engine.state) _ _ _ _ (λ files. g.met.D.Disk.images_now disk files told)
+    (λ files rest at. g.met.M.StateMachine.rests_hold engine.state (D.content disk) files c.requires.ready.state rest at) (c.requires.rests told).state) (persist.others told)))
+    (state_moves g.G.LogStore.holds g.T.MetaStore.holds g.M.StateMachine.holds _ _ _ _ _ _ _ _ _
+    (logged_is l s c.of.result caught next h) (applied_again l h s c.of.result caught next)
+    (spared _ _ _ _ _ _ _ _ log_state g.met.G.LogStore.holds_own
+    (gives_now _ (g.G.LogStore.rests c.persist_entries.new.self) _ _ _ _ (λ files. g.met.D.Disk.images_now between files then)
+    (λ files rest at. g.met.G.LogStore.rests_hold c.persist_entries.new.self (D.content between) files persist.ready rest at ∙ ap (λ x. Some x) persist.persisted) (persist.rests told)) (apply.others then))
+    (spared _ _ _ _ _ _ _ _ meta_state g.met.T.MetaStore.holds_own
+    (gives_now _ (g.T.MetaStore.rests engine.meta) _ _ _ _ (λ files. g.met.D.Disk.images_now between files then)
+    (λ files rest at. g.met.T.MetaStore.rests_hold engine.meta (D.content between) files c.requires.ready.meta rest at) meta_rests) (apply.others then))
+    (apply.own then)))
+
+pub returns-clause-moves : goal.returns-clause-moves
+returns-clause-moves g c = λ told.
+    let D = g.D.Disk in
+    let engine = c.args.engine.now in
+    let disk = c.args.disk.now in
+    let between = c.persist_entries.new.disk in
+    let persist = c.in_ok-persist_entries.ensures in
+    let apply = c.apply_chunk.ensures in
+    let then : IsTrue (D.kind between).tells = subst (λ k. IsTrue k.tells) (sym persist.disk.same) told in
+    let l = g.G.LogStore.log engine.log in
+    let h = g.T.MetaStore.hard_state engine.meta in
+    let s = g.M.StateMachine.map engine.state in
+    let is = next_is h s engine.running _ _ c.args.moment c.args.command c.of.result c.of.ensures (ap (λ i. i.index) c.last_applied-index.ensures) c.current_term-term.ensures in
+    let next = ap (λ e. e.index) is in
+    let caught = c.requires.ready.caught_up in
+    let meta_rests = g.met.T.MetaStore.rests_own engine.meta _ _ (apart_own _ _ _ _ meta_log (persist.spares told)) (c.requires.rests told).meta in
+    subst (λ e. OldOrNew (λ files. joined (g.G.LogStore.holds files) (g.T.MetaStore.holds files) (g.M.StateMachine.holds files)) (D.images c.apply_chunk.new.disk) (D.moment disk) (D.moment c.apply_chunk.new.disk) (durable_of h s) (applied (durable_of h s) e)) is
+    (moves_then _ _ _ _ (D.moment between) _ _ _ (apply.disk.told then).past
+    (log_moves g.G.LogStore.holds g.T.MetaStore.holds g.M.StateMachine.holds _ _ _ _ _ _ _ _ _
+    (durable_is l h s caught) (logged_is l s c.of.result caught next h)
+    (persist.own told)
+    (spared _ _ _ _ _ _ _ _ meta_log g.met.T.MetaStore.holds_own
+    (gives_now _ (g.T.MetaStore.rests engine.meta) _ _ _ _ (λ files. g.met.D.Disk.images_now disk files told)
+    (λ files rest at. g.met.T.MetaStore.rests_hold engine.meta (D.content disk) files c.requires.ready.meta rest at) (c.requires.rests told).meta) (persist.others told))
+    (spared _ _ _ _ _ _ _ _ state_log g.met.M.StateMachine.holds_own
+    (gives_now _ (g.M.StateMachine.rests engine.state) _ _ _ _ (λ files. g.met.D.Disk.images_now disk files told)
+    (λ files rest at. g.met.M.StateMachine.rests_hold engine.state (D.content disk) files c.requires.ready.state rest at) (c.requires.rests told).state) (persist.others told)))
+    (state_moves g.G.LogStore.holds g.T.MetaStore.holds g.M.StateMachine.holds _ _ _ _ _ _ _ _ _
+    (logged_is l s c.of.result caught next h) (applied_again l h s c.of.result caught next)
+    (spared _ _ _ _ _ _ _ _ log_state g.met.G.LogStore.holds_own
+    (gives_now _ (g.G.LogStore.rests c.persist_entries.new.self) _ _ _ _ (λ files. g.met.D.Disk.images_now between files then)
+    (λ files rest at. g.met.G.LogStore.rests_hold c.persist_entries.new.self (D.content between) files persist.ready rest at ∙ ap (λ x. Some x) persist.persisted) (persist.rests told)) (apply.others then))
+    (spared _ _ _ _ _ _ _ _ meta_state g.met.T.MetaStore.holds_own
+    (gives_now _ (g.T.MetaStore.rests engine.meta) _ _ _ _ (λ files. g.met.D.Disk.images_now between files then)
+    (λ files rest at. g.met.T.MetaStore.rests_hold engine.meta (D.content between) files c.requires.ready.meta rest at) meta_rests) (apply.others then))
+    (apply.own then)))
+
+pub returns-clause-ready : goal.returns-clause-ready
+returns-clause-ready g c = 
+    let engine = c.args.engine.now in
+    let l = g.G.LogStore.log engine.log in
+    let s = g.M.StateMachine.map engine.state in
+    let is = next_is (g.T.MetaStore.hard_state engine.meta) s engine.running _ _ c.args.moment c.args.command c.of.result c.of.ensures (ap (λ i. i.index) c.last_applied-index.ensures) c.current_term-term.ensures in
+    record {
+      log = c.in_ok-persist_entries.ensures.ready;
+      meta = c.requires.ready.meta;
+      state = c.in_ok-results.ensures.ready;
+      caught_up = caught_up_now l s c.of.result _ _ c.requires.ready.caught_up (ap (λ e. e.index) is) c.in_ok-persist_entries.ensures.persisted c.in_ok-results.ensures.applied;
+      plain = c.requires.ready.plain;
+    }
+
+pub returns-clause-rests : goal.returns-clause-rests
+returns-clause-rests g c = λ told.
+    let persist = c.in_ok-persist_entries.ensures in
+    let apply = c.in_ok-results.ensures in
+    let then : IsTrue (g.D.Disk.kind c.persist_entries.new.disk).tells = subst (λ k. IsTrue k.tells) (sym persist.disk.same) told in
+    let engine = c.args.engine.now in
+    record {
+      log = g.met.G.LogStore.rests_own c.persist_entries.new.self _ _ (apart_own _ _ _ _ log_state (apply.spares then)) (persist.rests told);
+      meta = g.met.T.MetaStore.rests_own engine.meta _ _ (apart_own _ _ _ _ meta_state (apply.spares then))
+          (g.met.T.MetaStore.rests_own engine.meta _ _ (apart_own _ _ _ _ meta_log (persist.spares told)) (c.requires.rests told).meta);
+      state = apply.rests then;
+    }

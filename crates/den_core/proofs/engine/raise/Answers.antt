@@ -1,0 +1,34 @@
+use Rattle.std.proofs.Common.{◌+◌, Some, ap, ◌∙◌}
+use Rattle.std.proofs.lemmas.Result.{on_ok_weaker}
+use Rattle.den_model.specs.MapState.{part_of}
+use Rattle.den_core.specs.Joined.{durable_is}
+use Rattle.den_core.proofs.Spared.{gives_now, spared, apart_own, meta_moves, log_meta, state_meta}
+use Rattle.den_core.proofs.engine.raise.Goals as goal
+
+-- the hard state was saved, or was not
+pub returns-clause-moves : goal.returns-clause-moves
+returns-clause-moves g c = λ told.
+    let D = g.D.Disk in
+    let engine = c.args.engine.now in
+    let disk = c.args.disk.now in
+    let save = c.save_hard_state.ensures in
+    let is = durable_is _ (g.T.MetaStore.hard_state engine.meta) _ c.requires.ready.caught_up in
+    meta_moves g.G.LogStore.holds g.T.MetaStore.holds g.M.StateMachine.holds _ _ _ _ _ _ _ _ _ is
+    (durable_is _ _ _ c.requires.ready.caught_up ∙ ap (λ n. Some (part_of (g.M.StateMachine.map engine.state) (n + 1))) c.current_term-term.ensures)
+    (spared _ _ _ _ _ _ _ _ log_meta g.met.G.LogStore.holds_own
+    (gives_now _ (g.G.LogStore.rests engine.log) _ _ _ _ (λ files. g.met.D.Disk.images_now disk files told)
+    (λ files rest at. g.met.G.LogStore.rests_hold engine.log (D.content disk) files c.requires.ready.log rest at) (c.requires.rests told).log) (save.others told))
+    (save.own told)
+    (spared _ _ _ _ _ _ _ _ state_meta g.met.M.StateMachine.holds_own
+    (gives_now _ (g.M.StateMachine.rests engine.state) _ _ _ _ (λ files. g.met.D.Disk.images_now disk files told)
+    (λ files rest at. g.met.M.StateMachine.rests_hold engine.state (D.content disk) files c.requires.ready.state rest at) (c.requires.rests told).state) (save.others told))
+
+pub returns-clause-rests : goal.returns-clause-rests
+returns-clause-rests g c = on_ok_weaker c.save_hard_state.result (λ rests told.
+    let engine = c.args.engine.now in
+    let save = c.save_hard_state.ensures in
+    record {
+      log = g.met.G.LogStore.rests_own engine.log _ _ (apart_own _ _ _ _ log_meta (save.spares told)) (c.requires.rests told).log;
+      meta = rests told;
+      state = g.met.M.StateMachine.rests_own engine.state _ _ (apart_own _ _ _ _ state_meta (save.spares told)) (c.requires.rests told).state;
+    }) c.save_hard_state.ensures.rests

@@ -1,0 +1,50 @@
+-- What an engine's three stores hold together, and when they are as an engine wants them.
+use Rattle.std.specs.Prelude.{◌≡◌, ◌≤◌, ◌+◌, ℕ, true, false, List, [], Option, option_map}
+use Rattle.den_model.specs.declared.log_id.HardState.{HardState}
+use Rattle.den_model.specs.declared.log_id.VotedFor.{VotedFor}
+use Rattle.den_model.specs.declared.running.Running.{Running}
+use Rattle.den_model.specs.Kv.{Durable, Kv}
+use Rattle.den_model.specs.Step.{is_leader}
+use Rattle.den_model.specs.Log.{Log, floor, above}
+use Rattle.den_model.specs.MapState.{MapState, part_of}
+use Rattle.den_model.specs.Image.{term_of}
+
+-- the durable part where the map has each entry of the log
+abbrev pub durable_of : Option HardState → MapState → Durable
+durable_of h s = part_of s (term_of h)
+
+abbrev pub kv_of : Option HardState → MapState → Running → Kv
+kv_of h s running = record { durable = durable_of h s; running = running }
+
+-- a leader votes for itself
+abbrev pub vote_of : Running → ℕ → Option VotedFor
+vote_of running term = option_map (λ (id : ℕ). record { id = id; term = term }) running.members.current_leader_id
+
+-- the hard state of a new term
+abbrev pub raised_of : Running → Option HardState → HardState
+raised_of running h = record { current_term = term_of h + 1; voted_for = vote_of running (term_of h + 1) }
+
+-- the map has each entry of the log, and none above its mark was purged
+pub record IsCaughtUp (l : Log) (s : MapState) : Type 0 where
+  pub purged : floor l ≤ s.mark.index
+  pub applied : above s.mark.index l.entries ≡ []
+
+-- it leads without a lease, and nobody watches
+pub record IsPlain (running : Running) : Type 0 where
+  pub leader : is_leader running.setting.role ≡ true
+  pub no_lease : running.setting.lease ≡ false
+  pub unwatched : running.watchers ≡ []
+
+-- none of the three stores has failed, and they go together
+pub record IsReady (log_ready meta_ready state_ready : Type 0) (l : Log) (s : MapState) (running : Running) : Type 0 where
+  pub log : log_ready
+  pub meta : meta_ready
+  pub state : state_ready
+  pub caught_up : IsCaughtUp l s
+  pub plain : IsPlain running
+
+-- each of the three has its files as its last call left them
+pub record AllRest (log_rests meta_rests state_rests : Type 0) : Type 0 where
+  pub log : log_rests
+  pub meta : meta_rests
+  pub state : state_rests

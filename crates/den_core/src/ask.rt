@@ -1,0 +1,171 @@
+//! What a frame asks for, before anything is done.
+ghost use Rattle.std.specs.Prelude.{◌≡◌, ℕ, List, Option, IfOk, IfErr, Some, None, filter_map, option_map};
+ghost use Rattle.den_codec.specs.declared.error.Error.TheVariants.{OutOfMemory};
+ghost use Rattle.den_model.specs.Kv.{Durable, Kv};
+ghost use Rattle.den_model.specs.Step.{answer, answered, command_of, failed, has_ttl, pair_at, write};
+ghost use Rattle.den_model.specs.MapState.{part_of};
+ghost use Rattle.den_model.specs.Frames.{IsBuiltFrame};
+ghost use Rattle.den_core.specs.Asked.{outcome_of, HasRoom};
+ghost use Rattle.den_core.specs.Parts.{IsPlain};
+
+use den_codec::{
+    Blob, ClientResponse, ClientResponsePayload, Command, Error, ErrorCode, Frame, KvEntry, Refusal,
+    Reply, Request, Rows, Running, WriteOperation,
+};
+use den_disk::Disk;
+use den_state::StateMachine;
+use std::alloc::Global;
+
+/// What a frame comes to: an entry that is committed, or a reply at once.
+#[derive(Debug, Drop)]
+pub(crate) enum Asked {
+    Commit(Command),
+    Say(Reply),
+}
+
+/// The reply to what was done.
+pub(crate) fn answered(payload: ClientResponsePayload) -> Reply
+    ensures { result ≡ answered payload }
+{
+    Reply::Response(ClientResponse {
+        error: ErrorCode::Success,
+        leader_hint: None,
+        retry_after_ms: None,
+        result: Some(payload),
+    })
+}
+
+/// The reply to what is not done.
+fn failed(error: ErrorCode) -> Reply
+    ensures { result ≡ failed error None }
+{
+    Reply::Response(ClientResponse {
+        error,
+        leader_hint: None,
+        retry_after_ms: None,
+        result: None,
+    })
+}
+
+/// The command of an operation.
+fn command_of(operation: WriteOperation) -> Command
+    ensures { result ≡ command_of operation }
+{
+    match operation {
+        WriteOperation::Insert {
+            key,
+            value,
+            ttl_secs,
+        } => Command::Insert {
+            key,
+            value,
+            ttl_secs,
+        },
+        WriteOperation::Delete { key } => Command::Delete { key },
+        WriteOperation::CompareAndSwap {
+            key,
+            expected,
+            new_value,
+        } => Command::CompareAndSwap {
+            key,
+            expected,
+            value: new_value,
+        },
+    }
+}
+
+/// Whether a command sets a time to live.
+fn has_ttl(command: &Command) -> bool
+    ensures { result ≡ has_ttl command.now }
+{
+    match command {
+        Command::Insert { ttl_secs, .. } => ttl_secs.is_some(),
+        Command::Noop | Command::Delete { .. } | Command::CompareAndSwap { .. } => false,
+    }
+}
+
+/// What a leader makes of a command behind this index.
+fn ask_write(running: &Running, last_index: u64, command: Command) -> Asked
+    requires plain { IsPlain running.now }
+    ensures asked { (d : Durable) (moment : ℕ) → d.last_index ≡ last_index
+        → write (record { durable = d; running = running.now }) moment command ≡ outcome_of (record { durable = d; running = running.now }) moment result }
+    ensures room { HasRoom last_index result }
+{
+    if has_ttl(&command) && !running.setting.lease {
+        return Asked::Say(Reply::Refused(Refusal::FeatureNotEnabled));
+    }
+    if last_index == u64::MAX {
+        return Asked::Say(failed(ErrorCode::ProposeFailed));
+    }
+    Asked::Commit(command)
+}
+
+/// The pair at a key, if it is held.
+fn pair_at<D: Disk, M: StateMachine<D>>(state: &M, key: &Blob) -> Result<Option<KvEntry>, Error>
+    ensures pair { IfOk result (λ pair. pair ≡ pair_at (part_of (M.map state.now) 0) key.now) }
+    ensures refused { IfErr result (λ e. e ≡ OutOfMemory) }
+{
+    match state.get(key.as_slice()) {
+        Some(value) => Ok(Some(KvEntry {
+            key: key.copy()?,
+            value: value.copy()?,
+        })),
+        None => Ok(None),
+    }
+}
+
+/// The pairs at these keys, those that are held.
+fn pairs_at<D: Disk, M: StateMachine<D>>(
+    alloc: Global,
+    state: &M,
+    keys: &[Blob],
+) -> Result<Rows<KvEntry>, Error>
+    ensures pairs { IfOk result (λ pairs. pairs ≡ filter_map (pair_at (part_of (M.map state.now) 0)) keys.now) }
+    ensures refused { IfErr result (λ e. e ≡ OutOfMemory) }
+{
+    let mut pairs = Vec::new(alloc);
+    for key in keys {
+        if let Some(pair) = pair_at::<D, M>(state, key)? {
+            pairs.push(pair)?;
+        }
+    }
+    Ok(Rows::of(pairs))
+}
+
+/// What a leader makes of a frame.
+pub(crate) fn ask<D: Disk, M: StateMachine<D>>(
+    alloc: Global,
+    state: &M,
+    running: &Running,
+    frame: Frame,
+) -> Result<Asked, Error>
+    requires plain { IsPlain running.now }
+    requires built { IsBuiltFrame frame }
+    ensures asked { IfOk result (λ asked. (term moment : ℕ)
+        → answer (record { durable = part_of (M.map state.now) term; running = running.now }) moment frame
+        ≡ outcome_of (record { durable = part_of (M.map state.now) term; running = running.now }) moment asked) }
+    ensures room { IfOk result (λ asked. HasRoom (M.map state.now).mark.index asked) }
+    ensures refused { IfErr result (λ e. e ≡ OutOfMemory) }
+{
+    let request = match frame {
+        Frame::Good(request) => request,
+        Frame::Bad => return Ok(Asked::Say(Reply::Refused(Refusal::NotBuilt))),
+    };
+    match request {
+        Request::Write(write) => match write.command {
+            Some(operation) => Ok(ask_write(
+                running,
+                state.last_applied().index,
+                command_of(operation),
+            )),
+            None => Ok(Asked::Say(failed(ErrorCode::InvalidRequest))),
+        },
+        Request::Read(read) => {
+            let entries = pairs_at::<D, M>(alloc, state, read.keys.as_slice())?;
+            Ok(Asked::Say(answered(ClientResponsePayload::Read { entries })))
+        }
+        Request::Scan { .. } | Request::Watch { .. } | Request::Members { .. } => {
+            Ok(Asked::Say(Reply::Refused(Refusal::NotBuilt)))
+        }
+    }
+}

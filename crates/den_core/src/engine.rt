@@ -1,0 +1,216 @@
+//! The engine: the next entry into the log and onto the map, and the answer.
+ghost use Rattle.std.specs.Prelude.{◌≡◌, ◌<◌, ◌≤◌, ◌^◌, ◌-◌, ◌+◌, ℕ, IsTrue, List, [], ◌∷◌, Option, Some, OnOk, IfOk, IfErr, false};
+ghost use Rattle.den_disk.specs.Families.{OldOrNew};
+ghost use Rattle.den_disk.specs.Files.{Files, Content, IsImage};
+ghost use Rattle.den_disk.specs.Goes.{Rose, DiskGoesOn};
+ghost use Rattle.den_model.specs.Apply.{applied, succeeds};
+ghost use Rattle.den_model.specs.Frames.{IsBuiltFrame};
+ghost use Rattle.den_model.specs.Image.{joined, term_of};
+ghost use Rattle.den_model.specs.Kv.{Durable, Kv};
+ghost use Rattle.den_model.specs.Step.{answer, has_ttl, next_entry, put_through};
+ghost use Rattle.den_store.specs.Causes.{IsRefusal};
+ghost use Rattle.den_core.specs.Parts.{durable_of, kv_of, raised_of, vote_of, IsCaughtUp, IsPlain, IsReady, AllRest};
+
+use crate::ask::{Asked, answered, ask};
+use crate::{StepOut, Stepper};
+use den_codec::{
+    ClientResponsePayload, Command, Entry, Error, Frame, HardState, Reply, Rows, Running, VotedFor,
+};
+use den_disk::Disk;
+use den_state::StateMachine;
+use den_store::{LogStore, MetaStore};
+use std::alloc::Global;
+
+/// Log, hard state and map, and the run's part. The map has each entry of the log.
+#[derive(Drop)]
+pub struct Engine<G, T, M> {
+    log: G,
+    meta: T,
+    state: M,
+    running: Running,
+    alloc: Global,
+}
+
+impl<G, T, M> Engine<G, T, M> {
+    /// Of stores that go together: the map has each entry of the log.
+    pub fn new<D: Disk>(alloc: Global, log: G, meta: T, state: M, running: Running) -> Engine<G, T, M>
+    where
+        G: LogStore<D>,
+        T: MetaStore<D>,
+        M: StateMachine<D>,
+        requires log_ready { G.ready log }
+        requires meta_ready { T.ready meta }
+        requires state_ready { M.ready state }
+        requires caught_up { IsCaughtUp (G.log log) (M.map state) }
+        requires plain { IsPlain running }
+        ensures kv { kv_of (T.hard_state result.meta) (M.map result.state) result.running ≡ kv_of (T.hard_state meta) (M.map state) running }
+        ensures ready { IsReady (G.ready result.log) (T.ready result.meta) (M.ready result.state) (G.log result.log) (M.map result.state) result.running }
+        ensures rests { (content : Content) → AllRest (G.rests log content) (T.rests meta content) (M.rests state content)
+            → AllRest (G.rests result.log content) (T.rests result.meta content) (M.rests result.state content) }
+    {
+        Engine {
+            log,
+            meta,
+            state,
+            running,
+            alloc,
+        }
+    }
+}
+
+/// The current term, 0 before any was saved.
+fn current_term<D: Disk, T: MetaStore<D>>(meta: &T) -> u64
+    ensures { result ≡ term_of (T.hard_state meta.now) }
+{
+    match meta.load_hard_state() {
+        Some(state) => state.current_term,
+        None => 0,
+    }
+}
+
+/// The leader's vote for itself.
+fn vote(running: &Running, term: u64) -> Option<VotedFor>
+    ensures { result ≡ vote_of running.now term }
+{
+    match running.members.current_leader_id {
+        Some(id) => Some(VotedFor { id, term }),
+        None => None,
+    }
+}
+
+/// Raises the term by one, voted for itself.
+fn raise<D: Disk, G: LogStore<D>, T: MetaStore<D>, M: StateMachine<D>>(
+    engine: &mut Engine<G, T, M>,
+    disk: &mut D,
+) -> Result<(), Error>
+    requires ready { IsReady (G.ready engine.old.log) (T.ready engine.old.meta) (M.ready engine.old.state)
+        (G.log engine.old.log) (M.map engine.old.state) engine.old.running }
+    requires rests { IsTrue (D.kind disk.old).tells → AllRest (G.rests engine.old.log (D.content disk.old))
+        (T.rests engine.old.meta (D.content disk.old)) (M.rests engine.old.state (D.content disk.old)) }
+    requires room { term_of (T.hard_state engine.old.meta) < 2 ^ 64 - 1 }
+    ensures disk { DiskGoesOn D.kind D.moment D.images D.faults disk.old disk.new }
+    ensures moves { IsTrue (D.kind disk.old).tells
+        → OldOrNew (λ files. joined (G.holds files) (T.holds files) (M.holds files)) (D.images disk.new) (D.moment disk.old) (D.moment disk.new)
+        (durable_of (T.hard_state engine.old.meta) (M.map engine.old.state))
+        (durable_of (Some (raised_of engine.old.running (T.hard_state engine.old.meta))) (M.map engine.old.state)) }
+    ensures raised { OnOk result (T.hard_state engine.new.meta ≡ Some (raised_of engine.old.running (T.hard_state engine.old.meta))) }
+    ensures log { G.log engine.new.log ≡ G.log engine.old.log }
+    ensures map { M.map engine.new.state ≡ M.map engine.old.state }
+    ensures running { engine.new.running ≡ engine.old.running }
+    ensures ready { OnOk result (IsReady (G.ready engine.new.log) (T.ready engine.new.meta) (M.ready engine.new.state)
+        (G.log engine.new.log) (M.map engine.new.state) engine.new.running) }
+    ensures rests { OnOk result (IsTrue (D.kind disk.old).tells → AllRest (G.rests engine.new.log (D.content disk.new))
+        (T.rests engine.new.meta (D.content disk.new)) (M.rests engine.new.state (D.content disk.new))) }
+    ensures refused { IfErr result (λ e. IsRefusal (Rose (D.faults disk.old) (D.faults disk.new)) (D.kind disk.old).limit e) }
+{
+    let term = current_term::<D, T>(&engine.meta) + 1;
+    let raised = HardState {
+        current_term: term,
+        voted_for: vote(&engine.running, term),
+    };
+    engine.meta.save_hard_state(disk, &raised)
+}
+
+/// Commits a command: its entry joins the log and is applied. Answers whether it succeeded.
+fn commit<D: Disk, G: LogStore<D>, T: MetaStore<D>, M: StateMachine<D>>(
+    engine: &mut Engine<G, T, M>,
+    disk: &mut D,
+    command: Command,
+    moment: u64,
+) -> Result<bool, Error>
+    requires ready { IsReady (G.ready engine.old.log) (T.ready engine.old.meta) (M.ready engine.old.state)
+        (G.log engine.old.log) (M.map engine.old.state) engine.old.running }
+    requires rests { IsTrue (D.kind disk.old).tells → AllRest (G.rests engine.old.log (D.content disk.old))
+        (T.rests engine.old.meta (D.content disk.old)) (M.rests engine.old.state (D.content disk.old)) }
+    requires room { (M.map engine.old.state).mark.index < 2 ^ 64 - 1 }
+    requires moment { 1 ≤ moment }
+    requires no_ttl { has_ttl command ≡ false }
+    ensures disk { DiskGoesOn D.kind D.moment D.images D.faults disk.old disk.new }
+    ensures moves { IsTrue (D.kind disk.old).tells
+        → OldOrNew (λ files. joined (G.holds files) (T.holds files) (M.holds files)) (D.images disk.new) (D.moment disk.old) (D.moment disk.new)
+        (durable_of (T.hard_state engine.old.meta) (M.map engine.old.state))
+        (applied (durable_of (T.hard_state engine.old.meta) (M.map engine.old.state))
+        (next_entry (kv_of (T.hard_state engine.old.meta) (M.map engine.old.state) engine.old.running) moment command)) }
+    ensures state { OnOk result (durable_of (T.hard_state engine.new.meta) (M.map engine.new.state)
+        ≡ applied (durable_of (T.hard_state engine.old.meta) (M.map engine.old.state))
+        (next_entry (kv_of (T.hard_state engine.old.meta) (M.map engine.old.state) engine.old.running) moment command)) }
+    ensures succeeded { IfOk result (λ succeeded. succeeded ≡ succeeds (durable_of (T.hard_state engine.old.meta) (M.map engine.old.state)) command) }
+    ensures running { engine.new.running ≡ engine.old.running }
+    ensures ready { OnOk result (IsReady (G.ready engine.new.log) (T.ready engine.new.meta) (M.ready engine.new.state)
+        (G.log engine.new.log) (M.map engine.new.state) engine.new.running) }
+    ensures rests { OnOk result (IsTrue (D.kind disk.old).tells → AllRest (G.rests engine.new.log (D.content disk.new))
+        (T.rests engine.new.meta (D.content disk.new)) (M.rests engine.new.state (D.content disk.new))) }
+    ensures refused { IfErr result (λ e. IsRefusal (Rose (D.faults disk.old) (D.faults disk.new)) (D.kind disk.old).limit e) }
+{
+    let index = engine.state.last_applied().index + 1;
+    let term = current_term::<D, T>(&engine.meta);
+    let chunk = [Entry::of(index, term, moment, command)];
+    engine.log.persist_entries(disk, &chunk)?;
+    let results = engine.state.apply_chunk(disk, &chunk)?;
+    Ok(results.as_slice()[0].succeeded)
+}
+
+/// Makes a frame's step, and answers its reply. A leader that nobody watches raises no event.
+fn answer<D: Disk, G: LogStore<D>, T: MetaStore<D>, M: StateMachine<D>>(
+    engine: &mut Engine<G, T, M>,
+    disk: &mut D,
+    frame: Frame,
+    moment: u64,
+) -> Result<Reply, Error>
+    requires ready { IsReady (G.ready engine.old.log) (T.ready engine.old.meta) (M.ready engine.old.state)
+        (G.log engine.old.log) (M.map engine.old.state) engine.old.running }
+    requires rests { IsTrue (D.kind disk.old).tells → AllRest (G.rests engine.old.log (D.content disk.old))
+        (T.rests engine.old.meta (D.content disk.old)) (M.rests engine.old.state (D.content disk.old)) }
+    requires moment { 1 ≤ moment }
+    requires built { IsBuiltFrame frame }
+    ensures disk { DiskGoesOn D.kind D.moment D.images D.faults disk.old disk.new }
+    ensures moves { IsTrue (D.kind disk.old).tells
+        → OldOrNew (λ files. joined (G.holds files) (T.holds files) (M.holds files)) (D.images disk.new) (D.moment disk.old) (D.moment disk.new)
+        (durable_of (T.hard_state engine.old.meta) (M.map engine.old.state))
+        (answer (kv_of (T.hard_state engine.old.meta) (M.map engine.old.state) engine.old.running) moment frame).after.durable }
+    ensures answered { IfOk result (λ reply. answer (kv_of (T.hard_state engine.old.meta) (M.map engine.old.state) engine.old.running) moment frame
+        ≡ record { after = kv_of (T.hard_state engine.new.meta) (M.map engine.new.state) engine.new.running; reply = Some reply; events = [] }) }
+    ensures ready { OnOk result (IsReady (G.ready engine.new.log) (T.ready engine.new.meta) (M.ready engine.new.state)
+        (G.log engine.new.log) (M.map engine.new.state) engine.new.running) }
+    ensures rests { OnOk result (IsTrue (D.kind disk.old).tells → AllRest (G.rests engine.new.log (D.content disk.new))
+        (T.rests engine.new.meta (D.content disk.new)) (M.rests engine.new.state (D.content disk.new))) }
+    ensures refused { IfErr result (λ e. IsRefusal (Rose (D.faults disk.old) (D.faults disk.new)) (D.kind disk.old).limit e) }
+{
+    match ask::<D, M>(engine.alloc, &engine.state, &engine.running, frame)? {
+        Asked::Commit(command) => {
+            let succeeded = commit(engine, disk, command, moment)?;
+            Ok(answered(ClientResponsePayload::Write { succeeded }))
+        }
+        Asked::Say(reply) => Ok(reply),
+    }
+}
+
+impl<D: Disk, G: LogStore<D>, T: MetaStore<D>, M: StateMachine<D>> Stepper<D>
+    for Engine<G, T, M> {
+    ghost use Rattle.den_core.specs.Joined.{joined_here};
+
+    ghost kv = { λ e. kv_of (T.hard_state e.meta) (M.map e.state) e.running };
+
+    ghost holds = { λ files. joined (G.holds files) (T.holds files) (M.holds files) };
+
+    ghost rests = { λ e content. AllRest (G.rests e.log content) (T.rests e.meta content) (M.rests e.state content) };
+
+    ghost ready = { λ e. IsReady (G.ready e.log) (T.ready e.meta) (M.ready e.state) (G.log e.log) (M.map e.state) e.running };
+
+    ghost rests_hold = { λ e content files ready rests image. joined_here (G.holds files) (T.holds files) (M.holds files) (G.log e.log) (T.hard_state e.meta) (M.map e.state) ready.caught_up
+        (G.rests_hold e.log content files ready.log rests.log image) (T.rests_hold e.meta content files ready.meta rests.meta image) (M.rests_hold e.state content files ready.state rests.state image) };
+
+    fn open_at(&mut self, disk: &mut D, moment: u64) -> Result<(), Error> {
+        raise(self, disk)?;
+        commit(self, disk, Command::Noop, moment)?;
+        Ok(())
+    }
+
+    fn step(&mut self, disk: &mut D, frame: Frame, moment: u64) -> Result<StepOut, Error> {
+        let reply = answer(self, disk, frame, moment)?;
+        Ok(StepOut {
+            reply,
+            events: Rows::of(Vec::new(self.alloc)),
+        })
+    }
+}
