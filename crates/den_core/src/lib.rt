@@ -1,6 +1,7 @@
 //! The engine over log, hard state and map, and the loop that serves frames.
 #![tactic(auto)]
 
+mod frame;
 mod stepper;
 
 pub use stepper::{StepOut, Stepper};
