@@ -1,7 +1,7 @@
 -- Reads into a buffer, and the first frame of a stream.
-use Rattle.std.proofs.Common.{◌≡◌, ℕ, ◌≤◌, ◌<◌, ◌+◌, ◌-◌, Bool, true, false, inl, inr, List, ◌++◌, length, take, drop, refl, sym, ◌∙◌, ap, subst, arith, IsTrue, Ok, length-append}
-use Rattle.std.proofs.lemmas.Bool.{cases_lt}
-use Rattle.std.proofs.lemmas.List.{take-append-drop, take-append-le, length-take-le, length-drop, drop-drop}
+use Rattle.std.proofs.Common.{◌≡◌, ℕ, ◌≤◌, ◌<◌, ◌+◌, ◌-◌, Bool, true, false, inl, inr, List, [], ◌++◌, length, take, drop, refl, sym, ◌∙◌, ap, subst, arith, IsTrue, Ok, length-append, replicate, nat_eq}
+use Rattle.std.proofs.lemmas.Bool.{cases_lt, eq-eqb, ne_eqb}
+use Rattle.std.proofs.lemmas.List.{take-append-drop, take-append-le, length-take-le, length-drop, drop-drop, take_all, take_at, drop_all, append-nil}
 use Rattle.std.proofs.Math.Seq.{take-append-add}
 use borrow.Rule.Slice.PartMut.{put_mid, post_of}
 use Rattle.den_disk.specs.Goes.{LinkGoesOn}
@@ -9,7 +9,7 @@ use Rattle.den_disk.specs.Pieces.{Gives, IsSized, taken_by}
 use Rattle.den_disk.specs.declared.link.LinkFault.{LinkFault}
 use Rattle.den_disk.specs.declared.link.Piece.{Piece}
 use Rattle.den_disk.specs.declared.link.Piece.TheVariants.{Got}
-use Rattle.den_core.specs.Input.{Took}
+use Rattle.den_core.specs.Input.{Took, IsPiece}
 
 -- a list's front in two parts
 take_two : (xs : List ℕ) (n more : ℕ) → n ≤ length xs → take (n + more) xs ≡ take n xs ++ take more (drop n xs)
@@ -60,3 +60,30 @@ put_size buf piece n more room fits = omega (arith, length-append (take n buf) (
 
 pub below_budget : (budget taken : ℕ) → (budget ≤ taken → false ≡ true) → taken < budget
 below_budget budget taken spent = elim (cases_lt taken budget) [ inl lt ↦ lt | inr le ↦ absurd (let no : false ≡ true = spent le in cc) ]
+
+-- the part of a buffer behind its first bytes
+pub tail_room : (d buf : List ℕ) (at size : ℕ) → length d ≡ at + size → length buf ≡ length (take (length d - at) (drop at d)) → length buf ≡ size
+tail_room d buf at size whole fits = fits ∙ length-take-le (length d - at) (drop at d) (omega (arith, length-drop at d)) ∙ omega (arith, whole)
+
+-- a list of bytes that was lengthened, and its new bytes written over
+pub tail_put : (old items d buf : List ℕ) (at size len n : ℕ) → length old ≡ at → items ≡ take (at + size) old ++ replicate n 0 → length items ≡ at + size → len ≡ at + size → d ≡ items
+    → length buf ≡ length (take (length d - at) (drop at d))
+    → take len (put_mid at (length d - at) d buf ++ drop (length (put_mid at (length d - at) d buf)) items) ≡ old ++ buf
+tail_put old items d buf at size len n is made long all same fits =
+    let k = length d - at in
+    let whole : length d ≡ at + size = ap length same ∙ long in
+    let room : length buf ≡ size = tail_room d buf at size whole fits in
+    let post : post_of at k d ≡ [] = drop_all k (drop at d) (omega (arith, length-drop at d)) in
+    let front : take at d ≡ old = ap (take at) (same ∙ made) ∙ ap (λ l. take at (l ++ replicate n 0)) (take_all (at + size) old (omega arith)) ∙ take_at old (replicate n 0) at is in
+    let put : put_mid at k d buf ≡ old ++ buf = ap (λ l. l ++ (buf ++ post_of at k d)) front ∙ ap (λ l. old ++ (buf ++ l)) post ∙ ap (λ l. old ++ l) (append-nil buf) in
+    take_at (put_mid at k d buf) (drop (length (put_mid at k d buf)) items) len (ap length put ∙ omega (arith, length-append old buf)) ∙ put
+
+-- so many bytes were read behind those of a body, or fewer
+pub piece_read : (left rest old new buf : List ℕ) (got size : ℕ) → new ≡ old ++ buf → length buf ≡ size → got ≤ length buf → got ≤ length left
+    → take got buf ≡ take got left → rest ≡ drop got left → (got < length buf → rest ≡ []) → IsPiece size left rest old new (nat_eq got size)
+piece_read left rest old new buf got size is room fits within same at end = elim (cases_lt got size) [
+  | inl lt ↦ let none = end (omega (arith, room)) in subst (λ b. IsPiece size left rest old new b) (sym (ne_eqb got size (omega arith)))
+      (omega (arith, length-drop got left, ap length (sym at ∙ none)), none)
+  | inr le ↦ let whole : got ≡ size = omega arith in subst (λ b. IsPiece size left rest old new b) (sym (eq-eqb got size whole))
+      (omega (arith, whole, within), is ∙ ap (λ l. old ++ l) (sym (take_all got buf (omega (arith, whole, room))) ∙ same ∙ ap (λ n. take n left) whole), at ∙ ap (λ n. drop n left) whole)
+]

@@ -59,7 +59,7 @@ fn read_piece<L: Link>(link: &mut L, size: usize, body: &mut Vec<u8>) -> Result<
 {
     let at = body.len();
     body.resize(at + size, 0)?;
-    let got = fill(link, &mut body[at..]).map_err(|_| Error::LinkFault)?;
+    let got = fill(link, &mut body[at..])?;
     Ok(got == size)
 }
 
