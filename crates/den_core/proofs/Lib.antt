@@ -1,3 +1,5 @@
 pub mod Cutting
+pub mod FramesSoFar
 pub mod GoesOn
 pub mod Lists
+pub mod Stretch
