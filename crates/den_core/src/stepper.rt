@@ -5,6 +5,7 @@ ghost use Rattle.den_disk.specs.Goes.{Rose, DiskGoesOn};
 ghost use Rattle.den_model.specs.Kv.{Durable, Kv};
 ghost use Rattle.den_model.specs.Plan.{after, output, opening, turn};
 ghost use Rattle.den_model.specs.Crash.{Survives};
+ghost use Rattle.den_model.specs.Frames.{IsBuiltFrame};
 ghost use Rattle.den_store.specs.Causes.{IsRefusal};
 ghost use Rattle.den_core.specs.Answers.{frames_of};
 
@@ -52,6 +53,7 @@ pub trait Stepper<D: Disk>: Drop {
         requires ready { ready self.old }
         requires rests { IsTrue (D.kind disk.old).tells → rests self.old (D.content disk.old) }
         requires moment { 1 ≤ moment }
+        requires built { IsBuiltFrame frame }
         ensures disk { DiskGoesOn D.kind D.moment D.images D.faults disk.old disk.new }
         ensures survives { IsTrue (D.kind disk.old).tells
             → Survives holds (D.images disk.new) (D.moment disk.old) (D.moment disk.new) [] (kv self.old) (turn (kv self.old) frame moment) }

@@ -1,5 +1,5 @@
 -- The input cut into frames.
-use Rattle.std.specs.Prelude.{◌≡◌, ◌≢◌, ◌⊎◌, ◌^◌, ◌<◌, ◌==◌, ℕ, zero, suc, ◌+◌, Bool, false, List, [], ◌∷◌, ◌++◌, length, take, drop, Option, Some, None, is_none, nat_lt, nat_le, if◌then◌else◌}
+use Rattle.std.specs.Prelude.{◌≡◌, ◌≢◌, ◌⊎◌, ◌^◌, ◌<◌, ◌==◌, ℕ, zero, suc, ◌+◌, Bool, true, false, List, [], ◌∷◌, ◌++◌, length, take, drop, Option, Some, None, is_none, nat_lt, nat_le, if◌then◌else◌}
 use Rattle.den_model.specs.declared.command.WriteOperation.{WriteOperation}
 use Rattle.den_model.specs.declared.command.WriteOperation.TheVariants as operation
 use Rattle.den_model.specs.declared.request.Request.{Request}
@@ -32,6 +32,11 @@ is_built (request.Members client_id) = false
 abbrev pub asked : Option Request → Frame
 asked None = Bad
 asked (Some r) = if is_built r then Good r else Bad
+
+-- a bad frame, or a request that is answered
+abbrev pub IsBuiltFrame : Frame → Type 0
+IsBuiltFrame Bad = Unit {0}
+IsBuiltFrame (Good r) = is_built r ≡ true
 
 -- what a body under this length limit is
 unfoldable pub frame_of : ℕ → List ℕ → Frame
