@@ -13,6 +13,11 @@ use Rattle.den_model.proofs.Runs.{after_append}
 use Rattle.den_core.proofs.Lists.{added_is, added_none, added_twice, extends_by}
 use Rattle.den_core.proofs.Stretch.{goes_on, whole_twice}
 
+-- no turn without a reading
+pub turns_none : (kv : Kv) (all : List Frame) → turns kv all [] ≡ []
+turns_none kv [] = refl
+turns_none kv (f ∷ all) = refl
+
 -- one reading more, where a frame is left
 turns_push : (kv : Kv) (all : List Frame) (readings : List ℕ) (frame : Frame) (rest : List Frame) (reading : ℕ) → drop (length readings) all ≡ frame ∷ rest
     → turns kv all (readings ++ reading ∷ []) ≡ turns kv all readings ++ turn (after kv (turns kv all readings)) frame (moment_of reading)
@@ -27,11 +32,6 @@ turns_push kv (f ∷ all) (r ∷ readings) frame rest reading e =
     ap (λ l. steps ++ l) (turns_push (after kv steps) all readings frame rest reading e)
     ∙ sym (append_assoc steps more (turn (after (after kv steps) more) frame (moment_of reading)))
     ∙ ap (λ k. steps ++ more ++ turn k frame (moment_of reading)) (sym (after_append kv steps more))
-
--- no turn without a reading
-pub turns_none : (kv : Kv) (all : List Frame) → turns kv all [] ≡ []
-turns_none kv [] = refl
-turns_none kv (f ∷ all) = refl
 
 -- what the loop keeps where all is told
 pub record SoFar (holds : Files → Option Durable) (images : ℕ → Files → Type 0) (from to : ℕ) (all left : List Frame) (readings : List ℕ) (sent : List (ℕ × ℕ)) (kv now : Kv) : Type 0 where
