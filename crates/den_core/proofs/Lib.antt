@@ -2,4 +2,5 @@ pub mod Cutting
 pub mod FramesSoFar
 pub mod GoesOn
 pub mod Lists
+pub mod Sending
 pub mod Stretch

@@ -1,7 +1,5 @@
 -- What is read of a link.
 use Rattle.std.specs.Prelude.{◌≡◌, ℕ, ◌+◌, ◌<◌, ◌≤◌, Bool, true, false, IsTrue, List, [], ◌∷◌, ◌++◌, length, take, drop, Option, Some, None}
-use Rattle.den_codec.specs.declared.error.Error.{Error}
-use Rattle.den_codec.specs.declared.error.Error.TheVariants.{OutOfMemory, LinkFault}
 use Rattle.den_model.specs.declared.request.Frame.{Frame}
 use Rattle.den_model.specs.Frames.{frames}
 
@@ -22,9 +20,3 @@ IsPiece size left rest old new false = (length left < size) × (rest ≡ [])
 abbrev pub Found : ℕ → List ℕ → List ℕ → Option Frame → Type 0
 Found limit left rest None = (left ≡ []) × (rest ≡ [])
 Found limit left rest (Some frame) = frames limit left ≡ frame ∷ frames limit rest
-
--- why a read ends early: want of memory, or a fault of the link where its count rose
-abbrev pub IsUnread : Type 0 → Error → Type 0
-IsUnread rose OutOfMemory = Unit {0}
-IsUnread rose LinkFault = rose
-IsUnread rose _ = ⊥

@@ -1,7 +1,8 @@
 //! Frames read from a link: a length in eight bytes, and so many bytes.
 ghost use Rattle.std.specs.Prelude.{◌≡◌, ◌+◌, ◌-◌, ◌<◌, ◌≤◌, IsTrue, IfOk, IfErr, OnErr, OnOk, length, take, drop, [], ℕ, vec_len};
 ghost use Rattle.den_disk.specs.Goes.{Rose, LinkGoesOn};
-ghost use Rattle.den_core.specs.Input.{Took, IsPiece, IsUnread};
+ghost use Rattle.den_core.specs.Input.{Took, IsPiece};
+ghost use Rattle.den_core.specs.Refusals.{IsLinkRefusal};
 
 use den_codec::Error;
 use den_disk::{Link, LinkFault, Piece};
@@ -55,7 +56,7 @@ fn read_piece<L: Link>(link: &mut L, size: usize, body: &mut Vec<u8>) -> Result<
     ensures on { LinkGoesOn L.tells L.sent L.budget L.taken L.faults link.old link.new }
     ensures sent { IsTrue (L.tells link.old) → L.sent link.new ≡ L.sent link.old }
     ensures piece { IfOk result (λ whole. IsTrue (L.tells link.old) → IsPiece size (L.left link.old) (L.left link.new) body.old.items body.new.items whole) }
-    ensures unread { IfErr result (λ e. IsUnread (Rose (L.faults link.old) (L.faults link.new)) e) }
+    ensures refused { IfErr result (λ e. IsLinkRefusal (Rose (L.faults link.old) (L.faults link.new)) e) }
 {
     let at = body.len();
     body.resize(at + size, 0)?;
@@ -68,7 +69,7 @@ fn read_body<L: Link>(link: &mut L, size: u64, body: &mut Vec<u8>) -> Result<boo
     ensures on { LinkGoesOn L.tells L.sent L.budget L.taken L.faults link.old link.new }
     ensures sent { IsTrue (L.tells link.old) → L.sent link.new ≡ L.sent link.old }
     ensures body { IfOk result (λ whole. IsTrue (L.tells link.old) → IsPiece size (L.left link.old) (L.left link.new) [] body.new.items whole) }
-    ensures unread { IfErr result (λ e. IsUnread (Rose (L.faults link.old) (L.faults link.new)) e) }
+    ensures refused { IfErr result (λ e. IsLinkRefusal (Rose (L.faults link.old) (L.faults link.new)) e) }
 {
     body.clear();
     let mut rest = size;

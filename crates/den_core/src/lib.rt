@@ -2,6 +2,7 @@
 #![tactic(auto)]
 
 mod frame;
+mod server;
 mod stepper;
 
 pub use stepper::{StepOut, Stepper};
