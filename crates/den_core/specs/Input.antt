@@ -1,7 +1,8 @@
 -- What is read of a link.
-use Rattle.std.specs.Prelude.{◌≡◌, ℕ, ◌+◌, ◌<◌, ◌≤◌, Bool, true, false, IsTrue, List, [], ◌∷◌, ◌++◌, length, take, drop, Option, Some, None}
+use Rattle.std.specs.Prelude.{◌≡◌, ◌⊎◌, ℕ, ◌+◌, ◌<◌, ◌≤◌, Bool, true, false, IsTrue, List, [], ◌∷◌, ◌++◌, length, take, drop, Option, Some, None}
 use Rattle.den_model.specs.declared.request.Frame.{Frame}
-use Rattle.den_model.specs.Frames.{frames}
+use Rattle.den_model.specs.declared.request.Frame.TheVariants.{Bad}
+use Rattle.den_model.specs.Frames.{frames, frame_of}
 
 -- so many bytes were taken, and nothing was sent
 pub record Took {L : Type 0} (tells : L → Bool) (left : L → List ℕ) (sent : L → List (ℕ × ℕ)) (budget taken : L → ℕ) (n : ℕ) (old new : L) : Type 0 where
@@ -15,6 +16,12 @@ pub record Took {L : Type 0} (tells : L → Bool) (left : L → List ℕ) (sent 
 abbrev pub IsPiece : ℕ → List ℕ → List ℕ → List ℕ → List ℕ → Bool → Type 0
 IsPiece size left rest old new true = (size ≤ length left) × (new ≡ old ++ take size left) × (rest ≡ drop size left)
 IsPiece size left rest old new false = (length left < size) × (rest ≡ [])
+
+-- the frame behind a length of this size: bad where the input ends inside it or its body is longer than the limit
+abbrev pub IsBehind : ℕ → ℕ → List ℕ → List ℕ → Frame → Type 0
+IsBehind limit size left rest frame =
+    ((length left < size) × (frame ≡ Bad) × (rest ≡ []))
+    ⊎ ((size ≤ length left) × (frame ≡ frame_of limit (take size left)) × (rest ≡ drop size left))
 
 -- what was found where a frame was sought: the input's first, or its end
 abbrev pub Found : ℕ → List ℕ → List ℕ → Option Frame → Type 0
