@@ -107,13 +107,21 @@ fn is_built(request: &Request) -> bool
     }
 }
 
-/// What a body asks, if it is no longer than the limit.
+fn read_request(alloc: Global, bytes: &[u8]) -> Result<Option<Request>, AllocError>
+    ensures { IfOk result (λ r. r ≡ request_in bytes.now) }
+{
+    Err(AllocError)
+}
+
+/// What a body asks: a request that this server answers, or a bad frame.
 fn asked(alloc: Global, body: &[u8]) -> Result<Frame, AllocError>
     ensures is { IfOk result (λ frame. frame ≡ asked (request_in body.now)) }
     ensures built { IfOk result IsBuiltFrame }
 {
-    let _ = is_built(&Request::Members { client_id: 0 });
-    Err(AllocError)
+    match read_request(alloc, body)? {
+        Some(request) if is_built(&request) => Ok(Frame::Good(request)),
+        Some(_) | None => Ok(Frame::Bad),
+    }
 }
 
 /// Reads frames from a link, none of whose bodies is longer than the limit. A longer one is read past.

@@ -5,4 +5,5 @@ mod frame;
 mod server;
 mod stepper;
 
+pub use frame::FrameReader;
 pub use stepper::{StepOut, Stepper};

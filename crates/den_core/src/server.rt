@@ -8,10 +8,10 @@ ghost use Rattle.den_model.specs.Spelling.{reply_word, event_word};
 ghost use Rattle.den_core.specs.Answers.{frames_of};
 ghost use Rattle.den_core.specs.Refusals.{IsLinkRefusal, IsServeRefusal};
 
-use crate::StepOut;
-use den_codec::{Error, Reply, WatchEvent};
-use den_disk::{Disk, Link};
-use std::alloc::AllocError;
+use crate::{FrameReader, StepOut, Stepper};
+use den_codec::{Error, Frame, Reply, WatchEvent};
+use den_disk::{Clock, Disk, Link};
+use std::alloc::{AllocError, Global};
 
 /// What is sent as a frame.
 trait FrameBody {
@@ -97,4 +97,76 @@ fn send_all<D: Disk, L: Link>(
         send_frame(link, disk, event, frame)?;
     }
     Ok(())
+}
+
+/// Makes a frame's steps, and sends what they answer, in this order.
+fn serve_frame<D: Disk, L: Link, S: Stepper<D>>(
+    stepper: &mut S,
+    disk: &mut D,
+    link: &mut L,
+    frame: Frame,
+    moment: u64,
+    buffer: &mut Vec<u8>,
+) -> Result<(), Error>
+    requires ready { S.ready stepper.old }
+    requires rests { IsTrue (D.kind disk.old).tells → S.rests stepper.old (D.content disk.old) }
+    requires built { IsBuiltFrame frame }
+    requires moment { 1 ≤ moment }
+    ensures disk { DiskGoesOn D.kind D.moment D.images D.faults disk.old disk.new }
+    ensures link { LinkGoesOn L.tells L.sent L.budget L.taken L.faults link.old link.new }
+    ensures left { IsTrue (L.tells link.old) → L.left link.new ≡ L.left link.old }
+    ensures survives { IsTrue (D.kind disk.old).tells → IsTrue (L.tells link.old)
+        → Survives S.holds (D.images disk.new) (D.moment disk.old) (D.moment disk.new) (added (L.sent link.old) (L.sent link.new))
+        (S.kv stepper.old) (turn (S.kv stepper.old) frame moment) }
+    ensures whole { OnOk result (IsTrue (L.tells link.old)
+        → IsWhole (added (L.sent link.old) (L.sent link.new)) (S.kv stepper.old) (turn (S.kv stepper.old) frame moment) (S.kv stepper.new)) }
+    ensures ready { OnOk result (S.ready stepper.new) }
+    ensures rests { OnOk result (IsTrue (D.kind disk.old).tells → S.rests stepper.new (D.content disk.new)) }
+    ensures refused { IfErr result (λ e. IsServeRefusal (Rose (D.faults disk.old) (D.faults disk.new)) (Rose (L.faults link.old) (L.faults link.new)) (D.kind disk.old).limit e) }
+{
+    let out = stepper.step(disk, frame, moment)?;
+    send_all(link, disk, &out, buffer)?;
+    Ok(())
+}
+
+/// Serves each frame of the input, to its end. A body may be no longer than the limit.
+pub fn serve<D: Disk, L: Link, C: Clock, S: Stepper<D>>(
+    stepper: &mut S,
+    disk: &mut D,
+    link: &mut L,
+    clock: &mut C,
+    limit: u32,
+    alloc: Global,
+) -> Result<(), Error>
+    requires ready { S.ready stepper.old }
+    requires rests { IsTrue (D.kind disk.old).tells → S.rests stepper.old (D.content disk.old) }
+    ensures disk { DiskGoesOn D.kind D.moment D.images D.faults disk.old disk.new }
+    ensures link { LinkGoesOn L.tells L.sent L.budget L.taken L.faults link.old link.new }
+    ensures clock { ClockGoesOn C.tells C.readings clock.old clock.new }
+
+    // At every exit, and after a crash at any moment, the disk stands for the state after a prefix of the turns that
+    // holds each step of which a byte was sent.
+    ensures survives { Tells (D.kind disk.old).tells (L.tells link.old) (C.tells clock.new)
+        → Survives S.holds (D.images disk.new) (D.moment disk.old) (D.moment disk.new) (added (L.sent link.old) (L.sent link.new))
+        (S.kv stepper.old) (turns (S.kv stepper.old) (frames limit (L.left link.old)) (added (C.readings clock.old) (C.readings clock.new))) }
+
+    // At Ok all turns were made, and exactly what they answer was sent.
+    ensures done { OnOk result (Tells (D.kind disk.old).tells (L.tells link.old) (C.tells clock.new)
+        → IsDone (L.left link.new) (length (added (C.readings clock.old) (C.readings clock.new))) (length (frames limit (L.left link.old)))
+        (added (L.sent link.old) (L.sent link.new)) (S.kv stepper.old)
+        (turns (S.kv stepper.old) (frames limit (L.left link.old)) (added (C.readings clock.old) (C.readings clock.new))) (S.kv stepper.new)) }
+    ensures ready { OnOk result (S.ready stepper.new) }
+    ensures rests { OnOk result (IsTrue (D.kind disk.old).tells → S.rests stepper.new (D.content disk.new)) }
+    ensures refused { IfErr result (λ e. IsServeRefusal (Rose (D.faults disk.old) (D.faults disk.new)) (Rose (L.faults link.old) (L.faults link.new)) (D.kind disk.old).limit e) }
+{
+    let mut reader = FrameReader::new(alloc, limit);
+    let mut buffer = Vec::new(alloc);
+    'frames: loop {
+        let found = reader.next(link)?;
+        let Some(frame) = found else {
+            return Ok(());
+        };
+        let moment = clock.now().max(1);
+        serve_frame(stepper, disk, link, frame, moment, &mut buffer)?;
+    }
 }
