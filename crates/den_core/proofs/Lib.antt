@@ -2,3 +2,10 @@ pub mod Durables
 pub mod Spared
 pub mod Quiet
 pub mod Steps
+pub mod Cutting
+pub mod FirstFrame
+pub mod FramesSoFar
+pub mod GoesOn
+pub mod Lists
+pub mod Sending
+pub mod Stretch

@@ -6,4 +6,9 @@ mod engine;
 mod stepper;
 
 pub use engine::Engine;
+mod frame;
+mod server;
+mod stepper;
+
+pub use frame::FrameReader;
 pub use stepper::{StepOut, Stepper};
