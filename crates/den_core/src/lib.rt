@@ -3,12 +3,10 @@
 
 mod ask;
 mod engine;
-mod stepper;
-
-pub use engine::Engine;
 mod frame;
 mod server;
 mod stepper;
 
+pub use engine::Engine;
 pub use frame::FrameReader;
 pub use stepper::{StepOut, Stepper};
