@@ -317,9 +317,20 @@ mod tests {
     #[test]
     fn syncs_what_was_written(rt: HostRuntime) -> Result<(), Fail> {
         let (log, state) = (Cell::new(0), Cell::new(0));
-        let mut files = Twelve::new();
-        files.log.a = open_counted(&log, 0);
-        files.state.b = open_counted(&state, 0);
+        let mut files = Twelve {
+            log: Three {
+                head: None,
+                a: open_counted(&log, 0),
+                b: None,
+            },
+            meta: Three::new(),
+            state: Three {
+                head: None,
+                a: None,
+                b: open_counted(&state, 0),
+            },
+            snapshot: Three::new(),
+        };
         files.sync()?;
         assert_eq!(rt;
             (log.get(), state.get()),
@@ -328,12 +339,20 @@ mod tests {
         );
         files.sync()?;
         assert_eq!(rt; (log.get(), state.get()), (1, 1), "nothing");
-        if let Some(file) = &mut files.log.a {
+        let place = Place {
+            family: Family::Log,
+            part: Part::A,
+        };
+        if let Some(file) = files.at(place) {
             file.write_at(0, b"gate")?;
         }
         files.sync()?;
         assert_eq!(rt; (log.get(), state.get()), (2, 1), "one file");
-        if let Some(file) = &mut files.state.b {
+        let place = Place {
+            family: Family::State,
+            part: Part::B,
+        };
+        if let Some(file) = files.at(place) {
             file.resize(9)?;
         }
         files.sync()?;
@@ -344,8 +363,11 @@ mod tests {
     #[test]
     fn stays_lost_after_a_failed_sync(rt: HostRuntime) {
         let syncs = Cell::new(0);
-        let mut files = Twelve::new();
-        files.meta.head = open_counted(&syncs, 1);
+        let mut files = Three {
+            head: open_counted(&syncs, 1),
+            a: None,
+            b: None,
+        };
         assert!(rt; files.sync().is_err());
         assert!(rt; files.sync().is_err());
         assert_eq!(rt; syncs.get(), 1);
