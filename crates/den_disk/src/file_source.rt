@@ -76,6 +76,7 @@ mod tests {
         let mut missing = FileSource::new(rt, String::from_str(rt.alloc(), "missing.toml")?);
         assert_eq!(rt; missing.read(&mut buf), Err(SourceFault));
         assert_eq!(rt; missing.faults, 1);
+        fs::remove_file(&rt, "server.toml")?;
         Ok(())
     }
 }

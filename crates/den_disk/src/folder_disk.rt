@@ -217,6 +217,7 @@ mod tests {
 
     #[test]
     fn keeps_what_was_written(rt: HostRuntime) -> Result<(), Fail> {
+        let _ = fs::remove_dir_all(&rt, "kept");
         let mut disk = FolderDisk::new(rt, String::from_str(rt.alloc(), "kept/store")?);
         assert_eq!(rt; disk.len(PLACE)?, 0);
         assert!(rt; !fs::exists(&rt, "kept/store/log.a")?);
@@ -232,6 +233,7 @@ mod tests {
         assert_eq!(rt; again.faults, 0);
         assert_eq!(rt; again.read_at(PLACE, 1, &mut bytes), Err(DiskFault));
         assert_eq!(rt; again.faults, 1);
+        fs::remove_dir_all(&rt, "kept")?;
         Ok(())
     }
 }
