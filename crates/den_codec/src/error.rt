@@ -1,6 +1,6 @@
 //! Why a call ends early.
 ghost use Rattle.std.specs.Prelude.{◌≡◌};
-ghost use Rattle.den_codec.specs.declared.error.Error.TheVariants.{OutOfMemory, LinkFault};
+ghost use Rattle.den_codec.specs.declared.error.Error.TheVariants.{OutOfMemory, StorageIoError, LinkFault};
 
 use std::alloc::{AllocError, AllocFailed};
 use thiserror::Error;
@@ -60,5 +60,13 @@ impl From<den_disk::LinkFault> for Error {
 
     fn from(_: den_disk::LinkFault) -> Self {
         Error::LinkFault
+    }
+}
+
+impl From<den_disk::DiskFault> for Error {
+    ghost from_gives = { λ _ e. e ≡ StorageIoError };
+
+    fn from(_: den_disk::DiskFault) -> Self {
+        Error::StorageIoError
     }
 }

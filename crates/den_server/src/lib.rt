@@ -2,5 +2,10 @@
 #![tactic(auto)]
 
 mod empty;
+mod nodes;
+mod opening;
+#[cfg(test)]
+mod rows;
+mod standalone;
 
-pub use empty::is_folder_empty;
+pub use standalone::StandaloneEngine;
