@@ -8,15 +8,27 @@ ghost use Rattle.den_model.specs.Image.{durable_in};
 ghost use Rattle.den_model.specs.Kv.{nothing};
 ghost use Rattle.den_model.specs.Plan.{output, plan_over};
 ghost use Rattle.den_codec.specs.Standard.{entered};
-ghost use Rattle.den_server.specs.Causes.{IsNotEmptyOrFault, IsRunRefusal};
+ghost use Rattle.den_server.specs.Causes.{as_not_empty, IsNotEmptyOrFault, IsRunRefusal};
 ghost use Rattle.den_server.specs.Empty.{is_folder_empty};
 
 use crate::empty::is_folder_empty;
-use crate::opening::open_empty;
+use crate::opening::open_folder;
 use den_codec::{Error, SoloConfig};
 use den_core::run_from;
 use den_disk::{Clock, Disk, Link};
 use std::alloc::Global;
+
+// What is found in a folder that was empty, on a disk that does not tell its bytes.
+fn not_empty(error: Error) -> Error
+    ensures { result ≡ as_not_empty error }
+{
+    match error {
+        Error::DataCorruption { .. } | Error::FeatureNotEnabled | Error::ProposeFailed => {
+            Error::NotEmpty
+        }
+        other => other,
+    }
+}
 
 /// A server of one voter.
 pub struct StandaloneEngine;
@@ -70,7 +82,10 @@ impl StandaloneEngine {
         if !is_folder_empty(disk)? {
             return Err(Error::NotEmpty);
         }
-        let mut engine = open_empty(alloc, disk, config.node())?;
+        let mut engine = match open_folder(alloc, disk, config.node()) {
+            Ok(engine) => engine,
+            Err(error) => return Err(not_empty(error)),
+        };
         let limit = config.node().network.max_frame_size;
         run_from(&mut engine, disk, link, clock, limit, alloc)
     }
