@@ -4,10 +4,10 @@
 
 mod clock;
 mod disk;
+mod faults;
 mod file_source;
 mod folder_disk;
 mod host_clock;
-mod faults;
 mod link;
 mod list_clock;
 mod mem_link;
@@ -18,10 +18,10 @@ mod place;
 mod place_file;
 mod sink;
 mod source;
+mod spoil;
 mod std_link;
 mod std_sink;
 mod system_call;
-mod spoil;
 
 pub use clock::Clock;
 pub use disk::{Disk, DiskFault};
