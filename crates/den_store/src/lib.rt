@@ -1,6 +1,7 @@
 //! The log store and the store of the hard state.
 #![tactic(auto)]
 
+mod held_log;
 mod stores;
 
 pub use stores::{LogStore, MetaStore};

@@ -1,0 +1,2 @@
+pub mod HeldLogs
+pub mod Rising

@@ -1,0 +1,13 @@
+-- A log in memory.
+use Rattle.std.specs.Prelude.{◌≡◌, true}
+use Rattle.den_model.specs.Entries.{rise_above}
+use Rattle.den_model.specs.Log.{Log, floor}
+use Rattle.den_store.specs.declared.held_log.HeldLog.{HeldLog}
+
+-- the log that it is
+abbrev pub log_of : HeldLog → Log
+log_of h = record { boundary = h.boundary; entries = h.entries.items }
+
+-- its entries rise above its boundary
+pub record IsInOrder (h : HeldLog) : Type 0 where
+  pub rises : rise_above (floor (log_of h)) h.entries.items ≡ true

@@ -1,0 +1,125 @@
+// A log in memory: a boundary, and the entries above it in the order of their indices.
+ghost use Rattle.std.specs.Prelude.{◌≡◌, ◌+◌, ◌≤◌, true, length, take, drop, filter, nat_le, vec_len, vec_capacity, OnOk, IfOk};
+ghost use Rattle.den_model.specs.Entries.{rise_above};
+ghost use Rattle.den_model.specs.Log.{empty_log, floor, below, above, replaced, changed, is_lawful, last_index};
+ghost use Rattle.den_model.specs.Words.{FitsLogRegion};
+ghost use Rattle.den_model.specs.declared.region.LogRegion.TheVariants.{Truncate, Purge, Reset};
+ghost use Rattle.den_store.specs.Held.{log_of, IsInOrder};
+
+use den_codec::{Entry, LogId, LogRegion};
+use std::alloc::{AllocError, Global};
+
+#[derive(Drop)]
+pub(crate) struct HeldLog {
+    boundary: Option<LogId>,
+    entries: Vec<Entry>,
+}
+
+impl HeldLog {
+    pub(crate) fn empty(alloc: Global) -> HeldLog
+        ensures log { log_of result ≡ empty_log }
+        ensures order { IsInOrder result }
+    {
+        HeldLog {
+            boundary: None,
+            entries: Vec::new(alloc),
+        }
+    }
+
+    // The boundary's index, or 0.
+    fn floor(&self) -> u64
+        ensures { result ≡ floor (log_of self.now) }
+    {
+        match self.boundary {
+            None => 0,
+            Some(boundary) => boundary.index,
+        }
+    }
+
+    pub(crate) fn last_index(&self) -> u64
+        ensures { result ≡ last_index (log_of self.now) }
+    {
+        match self.entries.last() {
+            None => self.floor(),
+            Some(entry) => entry.index(),
+        }
+    }
+
+    // Whether a region may stand here.
+    pub(crate) fn admits(&self, region: &LogRegion) -> bool
+        ensures { result ≡ is_lawful (log_of self.now) region.now }
+    {
+        match region {
+            LogRegion::Append { entries } => entries.as_slice()[0].index() > self.floor(),
+            LogRegion::Replace { from, .. } => self.boundary.is_none() || self.floor() < *from,
+            LogRegion::Truncate { .. } | LogRegion::Purge { .. } | LogRegion::Reset => true,
+        }
+    }
+
+    // Makes room for so many entries more.
+    pub(crate) fn reserve(&mut self, count: usize) -> Result<(), AllocError>
+        ensures boundary { self.new.boundary ≡ self.old.boundary }
+        ensures entries { self.new.entries.items ≡ self.old.entries.items }
+        ensures room { OnOk result (vec_len self.new.entries + count ≤ vec_capacity self.new.entries) }
+    {
+        self.entries.reserve(count)
+    }
+
+    // The entries from an index on give way to these. Takes no memory.
+    pub(crate) fn replace(&mut self, from: u64, mut entries: Vec<Entry>)
+        requires order { IsInOrder self.old }
+        requires room { vec_len self.old.entries + vec_len entries ≤ vec_capacity self.old.entries }
+        ensures { log_of self.new ≡ replaced (log_of self.old) from entries.items }
+    {
+        let kept = count_below(self.entries.as_slice(), from);
+        self.entries.truncate(kept);
+        let appended = self.entries.append(&mut entries);
+        prove!(appended.is_ok());
+    }
+
+    fn truncate(&mut self, from: u64)
+        requires { IsInOrder self.old }
+        ensures { log_of self.new ≡ changed (log_of self.old) (Truncate from) }
+    {
+        let kept = count_below(self.entries.as_slice(), from);
+        self.entries.truncate(kept);
+    }
+
+    fn purge(&mut self, index: u64, term: u64)
+        requires { IsInOrder self.old }
+        ensures { log_of self.new ≡ changed (log_of self.old) (Purge index term) }
+    {
+        if self.floor() < index {
+            let gone = count_to(self.entries.as_slice(), index);
+            self.entries.drain(..gone);
+            self.boundary = Some(LogId { index, term });
+        }
+    }
+
+    fn reset(&mut self)
+        ensures { log_of self.new ≡ changed (log_of self.old) Reset }
+    {
+        self.entries.clear();
+        self.boundary = None;
+    }
+}
+
+// How many of these entries, which rise, have an index below this one.
+fn count_below(entries: &[Entry], index: u64) -> usize
+    requires { rise_above 0 entries.now ≡ true }
+    ensures bound { result ≤ length entries.now }
+    ensures front { take result entries.now ≡ below index entries.now }
+    ensures rest { drop result entries.now ≡ filter (λ e. nat_le index e.index) entries.now }
+{
+    entries.partition_point(|entry| entry.index() < index)
+}
+
+// How many of these entries, which rise, have an index up to this one.
+fn count_to(entries: &[Entry], index: u64) -> usize
+    requires { rise_above 0 entries.now ≡ true }
+    ensures bound { result ≤ length entries.now }
+    ensures front { take result entries.now ≡ filter (λ e. nat_le e.index index) entries.now }
+    ensures rest { drop result entries.now ≡ above index entries.now }
+{
+    entries.partition_point(|entry| entry.index() <= index)
+}
