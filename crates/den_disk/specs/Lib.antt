@@ -5,3 +5,4 @@ pub mod Goes
 pub mod Memory
 pub mod Pieces
 pub mod Place
+pub mod Readings
