@@ -1,10 +1,15 @@
 -- What the changes of a log in memory make of the log.
 use Rattle.std.proofs.Common.{◌≡◌, ℕ, zero, suc, ◌+◌, ◌-◌, ◌<◌, ◌≤◌, ◌⊎◌, inl, inr, Bool, true, false, cond, List, [], ◌∷◌, ◌++◌, length, get_or, take, drop, Option, Some, None, refl, sym, ap, ◌∙◌, subst, arith}
+use Rattle.std.specs.List.{AllByRecursion}
 use Rattle.std.specs.Prelude.{nat_lt, nat_le, ◌&&◌, ◌||◌, not, is_none, is_some}
-use Rattle.std.proofs.lemmas.Bool.{ltb-true, ltb-false, lt-ltb, le-ltb, le-leb, lt-leb, cond-true, cond-false, cases_Bool}
+use Rattle.std.proofs.lemmas.Bool.{ltb-true, ltb-false, lt-ltb, le-ltb, le-leb, lt-leb, leb-true, and_from, and_parts, or_cases, cond-true, cond-false, cases_Bool}
 use Rattle.den_model.specs.declared.log_id.LogId.{LogId}
 use Rattle.den_model.specs.declared.region.LogRegion.TheVariants.{Append, Truncate, Purge, Replace, Reset}
-use Rattle.den_model.specs.Entries.{LogEntry, rise_above, begin_from}
+use Rattle.den_model.specs.Entries.{LogEntry, EntriesFrom, rise_above, rise_from, begin_from}
+use Rattle.den_model.specs.declared.region.LogRegion.{LogRegion}
+use Rattle.den_model.specs.Words.{FitsEntry, FitsLogRegion}
+use Rattle.den_store.specs.Held.{IsInOrder}
+use Rattle.den_store.proofs.Rising.{lower, replaced_rise, rise_from_above, rise_from_begins, above_rise, below_rise}
 use Rattle.den_model.specs.Log.{Log, floor, below, above, changed, replaced, is_lawful, last_of}
 
 pub last_none : (i : ℕ) (es : List LogEntry) → length es ≤ 0 → last_of i es ≡ i
@@ -48,3 +53,46 @@ unbounded (Some x) r b is t = absurd (cc (is, ap not t))
 pub bounded : (o : Option LogId) (r b : Bool) → is_some o ≡ not r → r ≡ false → b ≡ (is_none o || b)
 bounded None r b is f = absurd (cc (is, ap not f))
 bounded (Some x) r b is f = refl
+
+-- ---- the order of what a region makes
+
+floor_none : (o : Option LogId) (es : List LogEntry) → is_none o ≡ true → let l : Log = record { boundary = o; entries = es } in floor l ≡ 0
+floor_none None es none = refl
+floor_none (Some b) es none = absurd (cc none)
+
+no_floor : (l : Log) → is_none l.boundary ≡ true → floor l ≡ 0
+no_floor l none = floor_none l.boundary l.entries none
+
+replaced_order : (l : Log) (from : ℕ) (new : List LogEntry) → IsInOrder l → rise_above (floor l) new ≡ true → begin_from from new ≡ true → IsInOrder (replaced l from new)
+replaced_order l from new order rise begin = record { rises = replaced_rise (floor l) from l.entries new order.rises rise begin }
+
+-- entries that rise from an index on rise above what the first of them is above
+rise_after : (floor from : ℕ) (es : List LogEntry) → rise_from from es ≡ true → begin_from (floor + 1) es ≡ true → rise_above floor es ≡ true
+rise_after floor from [] rise begin = refl
+rise_after floor from (e ∷ es) rise begin =
+    let p = and_parts (nat_le from e.index) (rise_from (e.index + 1) es) rise in
+    and_from (nat_lt floor e.index) (rise_above e.index es) (lt-ltb floor e.index (omega (arith, leb-true (floor + 1) e.index begin))) (rise_from_above e.index es p.1)
+
+-- a replacement's first entry is above the boundary
+begins_above : (l : Log) (from : ℕ) (es : List LogEntry) → AllByRecursion FitsEntry es → rise_from from es ≡ true → (is_none l.boundary || nat_lt (floor l) from) ≡ true → begin_from (floor l + 1) es ≡ true
+begins_above l from [] fits rise lawful = refl
+begins_above l from (e ∷ es) fits rise lawful =
+    let p = and_parts (nat_le from e.index) (rise_from (e.index + 1) es) rise in
+    le-leb (floor l + 1) e.index (elim (or_cases (is_none l.boundary) (nat_lt (floor l) from) lawful) [
+      | inl none ↦ omega (arith, fits.0.0, no_floor l none)
+      | inr below ↦ omega (arith, ltb-true (floor l) from below, leb-true from e.index p.0)
+    ])
+
+-- what a lawful region makes of a log in order is in order
+pub changed_order : (l : Log) (r : LogRegion) → IsInOrder l → is_lawful l r ≡ true → FitsLogRegion r → IsInOrder (changed l r)
+changed_order l (Append []) order lawful fits = order
+changed_order l (Append (e ∷ es)) order lawful fits =
+    replaced_order l e.index (e ∷ es) order (rise_after (floor l) 1 (e ∷ es) fits.2 lawful) (le-leb e.index e.index (omega arith))
+changed_order l (Truncate from) order lawful fits = record { rises = below_rise (floor l) from l.entries order.rises }
+changed_order l (Purge index term) order lawful fits = elim (cases_Bool (nat_lt (floor l) index)) [
+  | inl t ↦ subst IsInOrder (purged l index term (above index l.entries) (ltb-true (floor l) index t) refl) (record { rises = above_rise (floor l) index l.entries order.rises })
+  | inr f ↦ subst IsInOrder (not_purged l index term (ltb-false (floor l) index f)) order
+]
+changed_order l (Replace r) order lawful fits =
+    replaced_order l r.from r.entries order (rise_after (floor l) r.from r.entries fits.2 (begins_above l r.from r.entries fits.1.1 fits.2 lawful)) (rise_from_begins r.from r.entries fits.2)
+changed_order l Reset order lawful fits = record { rises = refl }

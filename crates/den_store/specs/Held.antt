@@ -8,6 +8,6 @@ use Rattle.den_store.specs.declared.held_log.HeldLog.{HeldLog}
 abbrev pub log_of : HeldLog → Log
 log_of h = record { boundary = h.boundary; entries = h.entries.items }
 
--- its entries rise above its boundary
-pub record IsInOrder (h : HeldLog) : Type 0 where
-  pub rises : rise_above (floor (log_of h)) h.entries.items ≡ true
+-- a log's entries rise above its boundary
+pub record IsInOrder (l : Log) : Type 0 where
+  pub rises : rise_above (floor l) l.entries ≡ true

@@ -18,7 +18,7 @@ pub(crate) struct HeldLog {
 impl HeldLog {
     pub(crate) fn empty(alloc: Global) -> HeldLog
         ensures log { log_of result ≡ empty_log }
-        ensures order { IsInOrder result }
+        ensures order { IsInOrder (log_of result) }
     {
         HeldLog {
             boundary: None,
@@ -51,15 +51,16 @@ impl HeldLog {
     {
         match region {
             LogRegion::Append { entries } => entries.as_slice()[0].index() > self.floor(),
-            LogRegion::Replace { from, .. } => self.boundary.is_none() || self.floor() < *from,
+            LogRegion::Replace { replacement } => {
+                self.boundary.is_none() || self.floor() < replacement.from()
+            }
             LogRegion::Truncate { .. } | LogRegion::Purge { .. } | LogRegion::Reset => true,
         }
     }
 
     // Makes room for so many entries more.
     pub(crate) fn reserve(&mut self, count: usize) -> Result<(), AllocError>
-        ensures boundary { self.new.boundary ≡ self.old.boundary }
-        ensures entries { self.new.entries.items ≡ self.old.entries.items }
+        ensures log { log_of self.new ≡ log_of self.old }
         ensures room { OnOk result (vec_len self.new.entries + count ≤ vec_capacity self.new.entries) }
     {
         self.entries.reserve(count)
@@ -67,7 +68,7 @@ impl HeldLog {
 
     // The entries from an index on give way to these. Takes no memory.
     pub(crate) fn replace(&mut self, from: u64, mut entries: Vec<Entry>)
-        requires order { IsInOrder self.old }
+        requires order { IsInOrder (log_of self.old) }
         requires room { vec_len self.old.entries + vec_len entries ≤ vec_capacity self.old.entries }
         ensures { log_of self.new ≡ replaced (log_of self.old) from entries.items }
     {
@@ -78,7 +79,7 @@ impl HeldLog {
     }
 
     fn truncate(&mut self, from: u64)
-        requires { IsInOrder self.old }
+        requires { IsInOrder (log_of self.old) }
         ensures { log_of self.new ≡ changed (log_of self.old) (Truncate from) }
     {
         let kept = count_below(self.entries.as_slice(), from);
@@ -86,7 +87,7 @@ impl HeldLog {
     }
 
     fn purge(&mut self, index: u64, term: u64)
-        requires { IsInOrder self.old }
+        requires { IsInOrder (log_of self.old) }
         ensures { log_of self.new ≡ changed (log_of self.old) (Purge index term) }
     {
         if self.floor() < index {
@@ -101,6 +102,33 @@ impl HeldLog {
     {
         self.entries.clear();
         self.boundary = None;
+    }
+}
+
+impl HeldLog {
+    // What a region makes of the log.
+    pub(crate) fn take(&mut self, region: LogRegion) -> Result<(), AllocError>
+        requires { IsInOrder (log_of self.old) }
+        ensures { OnOk result (log_of self.new ≡ changed (log_of self.old) region) }
+    {
+        match region {
+            LogRegion::Append { entries } => {
+                let from = entries.as_slice()[0].index();
+                let entries = entries.into_items();
+                self.reserve(entries.len())?;
+                self.replace(from, entries);
+            }
+            LogRegion::Truncate { from } => self.truncate(from),
+            LogRegion::Purge { index, term } => self.purge(index.get(), term),
+            LogRegion::Replace { replacement } => {
+                let from = replacement.from();
+                let entries = replacement.into_items();
+                self.reserve(entries.len())?;
+                self.replace(from, entries);
+            }
+            LogRegion::Reset => self.reset(),
+        }
+        Ok(())
     }
 }
 

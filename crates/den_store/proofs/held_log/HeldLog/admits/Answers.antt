@@ -18,12 +18,12 @@ returns-in-Append c =
 pub returns-then-is_none : goal.returns-then-is_none
 returns-then-is_none c =
     let l = log_of c.args.self.now in
-    unbounded c.args.self.now.boundary c.is_none.result (nat_lt (floor l) c.in-Replace.from) c.is_none.ensures c.if-is_none.true
+    unbounded c.args.self.now.boundary c.is_none.result (nat_lt (floor l) c.in-Replace.replacement.from) c.is_none.ensures c.if-is_none.true
     ∙ sym (ap (λ (r : LogRegion). is_lawful l r) c.in-Replace.is)
 
 pub returns-else-is_none : goal.returns-else-is_none
 returns-else-is_none c =
     let l = log_of c.args.self.now in
-    ap (λ (i : ℕ). nat_lt i c.in-Replace.from) c.floor-else-is_none.ensures
-    ∙ bounded c.args.self.now.boundary c.is_none.result (nat_lt (floor l) c.in-Replace.from) c.is_none.ensures c.if-is_none.false
-    ∙ sym (ap (λ (r : LogRegion). is_lawful l r) c.in-Replace.is)
+    let from = c.in-Replace.replacement.from in
+    ap (λ (i : ℕ). nat_lt i c.from.result) c.floor-else-is_none.ensures ∙ ap (λ (i : ℕ). nat_lt (floor l) i) c.from.ensures
+    ∙ bounded c.args.self.now.boundary c.is_none.result (nat_lt (floor l) from) c.is_none.ensures c.if-is_none.false ∙ sym (ap (λ (r : LogRegion). is_lawful l r) c.in-Replace.is)
