@@ -8,7 +8,7 @@ use Rattle.den_model.specs.declared.region.LogRegion.TheVariants.{Append, Trunca
 use Rattle.den_model.specs.Entries.{LogEntry, EntriesFrom, rise_above, rise_from, begin_from}
 use Rattle.den_model.specs.declared.region.LogRegion.{LogRegion}
 use Rattle.den_model.specs.Words.{FitsEntry, FitsLogRegion}
-use Rattle.den_store.specs.Held.{IsInOrder}
+use Rattle.den_store.specs.Order.{IsInOrder}
 use Rattle.den_store.proofs.Rising.{lower, replaced_rise, rise_from_above, rise_from_begins, above_rise, below_rise}
 use Rattle.den_model.specs.Log.{Log, floor, below, above, changed, replaced, is_lawful, last_of}
 
@@ -63,8 +63,21 @@ floor_none (Some b) es none = absurd (cc none)
 no_floor : (l : Log) → is_none l.boundary ≡ true → floor l ≡ 0
 no_floor l none = floor_none l.boundary l.entries none
 
-replaced_order : (l : Log) (from : ℕ) (new : List LogEntry) → IsInOrder l → rise_above (floor l) new ≡ true → begin_from from new ≡ true → IsInOrder (replaced l from new)
-replaced_order l from new order rise begin = record { rises = replaced_rise (floor l) from l.entries new order.rises rise begin }
+-- the same boundary, and entries that are equal
+pub same_order : (l : Log) (es : List LogEntry) → es ≡ l.entries → IsInOrder l → let now : Log = record { boundary = l.boundary; entries = es } in IsInOrder now
+same_order l es is order = record { rises = subst (λ (x : List LogEntry). rise_above (floor l) x ≡ true) (sym is) order.rises }
+
+pub replaced_order : (l : Log) (from : ℕ) (new es : List LogEntry) → IsInOrder l → rise_above (floor l) new ≡ true → begin_from from new ≡ true → es ≡ below from l.entries ++ new
+    → let now : Log = record { boundary = l.boundary; entries = es } in IsInOrder now
+replaced_order l from new es order rise begin is =
+    record { rises = subst (λ (x : List LogEntry). rise_above (floor l) x ≡ true) (sym is) (replaced_rise (floor l) from l.entries new order.rises rise begin) }
+
+pub truncated_order : (l : Log) (from : ℕ) (es : List LogEntry) → IsInOrder l → es ≡ below from l.entries → let now : Log = record { boundary = l.boundary; entries = es } in IsInOrder now
+truncated_order l from es order is = record { rises = subst (λ (x : List LogEntry). rise_above (floor l) x ≡ true) (sym is) (below_rise (floor l) from l.entries order.rises) }
+
+pub purged_order : (l : Log) (index term : ℕ) (es : List LogEntry) → IsInOrder l → es ≡ above index l.entries
+    → let now : Log = record { boundary = Some (record { index = index; term = term }); entries = es } in IsInOrder now
+purged_order l index term es order is = record { rises = subst (λ (x : List LogEntry). rise_above index x ≡ true) (sym is) (above_rise (floor l) index l.entries order.rises) }
 
 -- entries that rise from an index on rise above what the first of them is above
 rise_after : (floor from : ℕ) (es : List LogEntry) → rise_from from es ≡ true → begin_from (floor + 1) es ≡ true → rise_above floor es ≡ true
@@ -83,16 +96,9 @@ begins_above l from (e ∷ es) fits rise lawful =
       | inr below ↦ omega (arith, ltb-true (floor l) from below, leb-true from e.index p.0)
     ])
 
--- what a lawful region makes of a log in order is in order
-pub changed_order : (l : Log) (r : LogRegion) → IsInOrder l → is_lawful l r ≡ true → FitsLogRegion r → IsInOrder (changed l r)
-changed_order l (Append []) order lawful fits = order
-changed_order l (Append (e ∷ es)) order lawful fits =
-    replaced_order l e.index (e ∷ es) order (rise_after (floor l) 1 (e ∷ es) fits.2 lawful) (le-leb e.index e.index (omega arith))
-changed_order l (Truncate from) order lawful fits = record { rises = below_rise (floor l) from l.entries order.rises }
-changed_order l (Purge index term) order lawful fits = elim (cases_Bool (nat_lt (floor l) index)) [
-  | inl t ↦ subst IsInOrder (purged l index term (above index l.entries) (ltb-true (floor l) index t) refl) (record { rises = above_rise (floor l) index l.entries order.rises })
-  | inr f ↦ subst IsInOrder (not_purged l index term (ltb-false (floor l) index f)) order
-]
-changed_order l (Replace r) order lawful fits =
-    replaced_order l r.from r.entries order (rise_after (floor l) r.from r.entries fits.2 (begins_above l r.from r.entries fits.1.1 fits.2 lawful)) (rise_from_begins r.from r.entries fits.2)
-changed_order l Reset order lawful fits = record { rises = refl }
+-- the entries of a lawful region rise above the boundary
+pub append_rises : (l : Log) (es : List LogEntry) → is_lawful l (Append es) ≡ true → FitsLogRegion (Append es) → rise_above (floor l) es ≡ true
+append_rises l es lawful fits = rise_after (floor l) 1 es fits.2 lawful
+
+pub replace_rises : (l : Log) (r : EntriesFrom) → is_lawful l (Replace r) ≡ true → FitsLogRegion (Replace r) → rise_above (floor l) r.entries ≡ true
+replace_rises l r lawful fits = rise_after (floor l) r.from r.entries fits.2 (begins_above l r.from r.entries fits.1.1 fits.2 lawful)

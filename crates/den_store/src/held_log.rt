@@ -1,10 +1,10 @@
 // A log in memory: a boundary, and the entries above it in the order of their indices.
 ghost use Rattle.std.specs.Prelude.{◌≡◌, ◌+◌, ◌≤◌, true, length, take, drop, filter, nat_le, vec_len, vec_capacity, OnOk, IfOk};
-ghost use Rattle.den_model.specs.Entries.{rise_above};
+ghost use Rattle.den_model.specs.Entries.{rise_above, begin_from};
 ghost use Rattle.den_model.specs.Log.{empty_log, floor, below, above, replaced, changed, is_lawful, last_index};
 ghost use Rattle.den_model.specs.Words.{FitsLogRegion};
 ghost use Rattle.den_model.specs.declared.region.LogRegion.TheVariants.{Truncate, Purge, Reset};
-ghost use Rattle.den_store.specs.Held.{log_of, IsInOrder};
+ghost use Rattle.den_store.specs.Order.{IsInOrder};
 
 use den_codec::{Entry, LogId, LogRegion};
 use std::alloc::{AllocError, Global};
@@ -13,12 +13,14 @@ use std::alloc::{AllocError, Global};
 pub(crate) struct HeldLog {
     boundary: Option<LogId>,
     entries: Vec<Entry>,
+    ghost order: { IsInOrder (record { boundary = boundary; entries = entries.items }) },
 }
 
 impl HeldLog {
+    ghost use Rattle.den_store.specs.Held.{log_of};
+
     pub(crate) fn empty(alloc: Global) -> HeldLog
-        ensures log { log_of result ≡ empty_log }
-        ensures order { IsInOrder (log_of result) }
+        ensures { log_of result ≡ empty_log }
     {
         HeldLog {
             boundary: None,
@@ -68,7 +70,8 @@ impl HeldLog {
 
     // The entries from an index on give way to these. Takes no memory.
     pub(crate) fn replace(&mut self, from: u64, mut entries: Vec<Entry>)
-        requires order { IsInOrder (log_of self.old) }
+        requires rise { rise_above (floor (log_of self.old)) entries.items ≡ true }
+        requires begin { begin_from from entries.items ≡ true }
         requires room { vec_len self.old.entries + vec_len entries ≤ vec_capacity self.old.entries }
         ensures { log_of self.new ≡ replaced (log_of self.old) from entries.items }
     {
@@ -79,7 +82,6 @@ impl HeldLog {
     }
 
     fn truncate(&mut self, from: u64)
-        requires { IsInOrder (log_of self.old) }
         ensures { log_of self.new ≡ changed (log_of self.old) (Truncate from) }
     {
         let kept = count_below(self.entries.as_slice(), from);
@@ -87,7 +89,6 @@ impl HeldLog {
     }
 
     fn purge(&mut self, index: u64, term: u64)
-        requires { IsInOrder (log_of self.old) }
         ensures { log_of self.new ≡ changed (log_of self.old) (Purge index term) }
     {
         if self.floor() < index {
@@ -106,9 +107,12 @@ impl HeldLog {
 }
 
 impl HeldLog {
+    ghost use Rattle.den_store.specs.Held.{log_of};
+
     // What a region makes of the log.
     pub(crate) fn take(&mut self, region: LogRegion) -> Result<(), AllocError>
-        requires { IsInOrder (log_of self.old) }
+        requires lawful { is_lawful (log_of self.old) region ≡ true }
+        requires fits { FitsLogRegion region }
         ensures { OnOk result (log_of self.new ≡ changed (log_of self.old) region) }
     {
         match region {
