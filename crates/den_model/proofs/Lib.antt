@@ -4,6 +4,7 @@ pub mod Spells
 pub mod LogSpells
 pub mod Tagged
 pub mod RegionSpells
+pub mod RoundTrips
 pub mod RequestSpells
 pub mod Runs
 pub mod Order
