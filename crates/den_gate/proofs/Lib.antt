@@ -1,0 +1,6 @@
+pub mod Written
+pub mod Beside
+pub mod Calm
+pub mod Runs
+pub mod Frame
+pub mod Families
