@@ -1,2 +1,3 @@
 pub mod HeldLogs
+pub mod Joins
 pub mod Rising

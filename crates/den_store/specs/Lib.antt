@@ -1,3 +1,4 @@
 pub mod Causes
+pub mod Folding
 pub mod Held
 pub mod Order

@@ -2,6 +2,7 @@
 #![tactic(auto)]
 
 mod held_log;
+mod replay;
 mod stores;
 
 pub use stores::{LogStore, MetaStore};
