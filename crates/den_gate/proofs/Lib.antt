@@ -4,3 +4,5 @@ pub mod Calm
 pub mod Runs
 pub mod Frame
 pub mod Families
+pub mod Settling
+pub mod Refusals
