@@ -1,4 +1,7 @@
 pub mod Causes
+pub mod FileMeta
 pub mod Folding
 pub mod Held
+pub mod Meanings
 pub mod Order
+pub mod Refused
