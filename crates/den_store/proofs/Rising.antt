@@ -112,3 +112,32 @@ below_rise a i (e ∷ es) h =
       | inl pass ↦ rw (cond-true (nat_lt e.index i) (e ∷ below i es) (below i es) pass) (and_from (nat_lt a e.index) (rise_above e.index (below i es)) p.0 (below_rise e.index i es p.1))
       | inr fail ↦ rw (cond-false (nat_lt e.index i) (e ∷ below i es) (below i es) fail) (below_rise a i es (lower a e.index es (omega (arith, ltb-true a e.index p.0)) p.1))
     ]
+
+pub take_rise : (a n : ℕ) (es : List LogEntry) → rise_above a es ≡ true → rise_above a (take n es) ≡ true
+take_rise a zero es h = refl
+take_rise a (suc n) [] h = refl
+take_rise a (suc n) (e ∷ es) h =
+    let p = and_parts (nat_lt a e.index) (rise_above e.index es) h in
+    and_from (nat_lt a e.index) (rise_above e.index (take n es)) p.0 (take_rise e.index n es p.1)
+
+-- what passes both of two tests
+pub filter_both : {X : Type 0} (p q : X → Bool) (xs : List X) → filter p (filter q xs) ≡ filter (λ x. p x && q x) xs
+filter_both p q [] = refl
+filter_both {X} p q (x ∷ xs) = elim (cases_Bool (q x)) [
+  | inl t ↦
+      rw t (elim (cases_Bool (p x)) [
+        | inl s ↦ rw s (ap (λ (l : List X). x ∷ l) (filter_both p q xs))
+        | inr s ↦ rw s (filter_both p q xs)
+      ])
+  | inr f ↦
+      rw f (elim (cases_Bool (p x)) [
+        | inl s ↦ rw s (filter_both p q xs)
+        | inr s ↦ rw s (filter_both p q xs)
+      ])
+]
+
+pub rise_from_lower : (i j : ℕ) (es : List LogEntry) → i ≤ j → rise_from j es ≡ true → rise_from i es ≡ true
+rise_from_lower i j [] le h = refl
+rise_from_lower i j (e ∷ es) le h =
+    let p = and_parts (nat_le j e.index) (rise_from (e.index + 1) es) h in
+    and_from (nat_le i e.index) (rise_from (e.index + 1) es) (le-leb i e.index (omega (arith, leb-true j e.index p.0))) p.1

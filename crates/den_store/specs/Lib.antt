@@ -1,4 +1,5 @@
 pub mod Causes
+pub mod FileLog
 pub mod FileMeta
 pub mod Folding
 pub mod Held
