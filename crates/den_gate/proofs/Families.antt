@@ -1,12 +1,12 @@
 -- From what the calls on one slot leave to what they leave of its family and of the others.
-use Rattle.std.proofs.Common.{refl, ◌≡◌, ◌⊎◌, inl, inr, ⊎_elim, ℕ, ◌≤◌, Option, Some, Ok, List, [], ◌∷◌, ◌++◌, sym, ◌∙◌, ap, subst}
+use Rattle.std.proofs.Common.{refl, ◌≡◌, ◌⊎◌, inl, inr, ⊎_elim, ℕ, ◌≤◌, Option, Some, Result, Ok, List, [], ◌∷◌, ◌++◌, sym, ◌∙◌, ap, subst}
 use Rattle.den_disk.specs.declared.place.Family.{Family}
 use Rattle.den_disk.specs.declared.place.Place.{Place}
 use Rattle.den_disk.specs.Files.{Files, Content, IsImage}
 use Rattle.den_disk.specs.Crash.{Leaves}
 use Rattle.den_disk.specs.Families.{SparesOthers, SparesOwn, SparesImages, OldOrNew}
-use Rattle.den_model.specs.Regions.{regions, placed}
-use Rattle.den_model.specs.Image.{named, head_of, slot_of}
+use Rattle.den_model.specs.Regions.{Region, regions, placed}
+use Rattle.den_model.specs.Image.{named, head_of, slot_of, meaning_of, in_regions}
 use Rattle.den_gate.specs.declared.gate.GateFile.{GateFile}
 use Rattle.den_gate.specs.Slot.{payloads_of, Holds}
 use Rattle.den_gate.specs.Steps.{IsFrom, Spares, IsOpen, Keeps, KeepsOrAdds}
@@ -106,6 +106,11 @@ rest_image gate c files rest current image =
     let same : files slot ≡ c.reading slot = whole c.pending slot (c.reading slot) (files slot) (image slot) rest.settled in
     let head : files (head_of slot.family) ≡ c.reading (head_of slot.family) = whole c.pending (head_of slot.family) (c.reading (head_of slot.family)) (files (head_of slot.family)) (image (head_of slot.family)) current.settled in
     has_list slot (payloads gate c.reading) files (ap named head ∙ current.head) (ap regions same ∙ rest_regions gate c rest)
+
+-- what a family means, from its list
+pub has_meaning : {A : Type 0} (family : Family) (meaning : List Region → Result A ℕ) (slot : Place) (list : List (List ℕ)) (files : Files) → slot.family ≡ family → HasList slot list files
+    → in_regions family meaning files ≡ meaning (placed 0 list)
+has_meaning family meaning slot list files own h = ap (λ (f : Family). in_regions f meaning files) (sym own) ∙ ap (meaning_of meaning) h.list_is
 
 -- a meaning that the list gives, over a call that keeps it
 pub keeps_meaning : {X : Type 0} (holds : Files → Option X) (slot : Place) (list : List (List ℕ)) (images : ℕ → Files → Type 0) (from to : ℕ) (old new : X)

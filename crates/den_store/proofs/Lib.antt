@@ -1,0 +1,4 @@
+pub mod HeldLogs
+pub mod Joins
+pub mod Owned
+pub mod Rising
