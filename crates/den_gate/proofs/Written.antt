@@ -151,6 +151,11 @@ begins_more ps at next payload file b r =
       size = omega (arith, ap length (regions-push ps payload), length-append (open_regions ps) (open_region payload), length-append (u64_word n) payload, length-word n, b.size, r.next_is);
     }
 
+-- the same, where the payload joined the list
+pub begins_pushed : (ps qs : List (List ℕ)) (at next : ℕ) (taken payload file : List ℕ) → Begins ps at file → IsRegion at next payload file → taken ≡ payload → qs ≡ ps ++ taken ∷ [] → Begins qs next file
+begins_pushed ps qs at next taken payload file b r is pushed =
+    subst (λ (l : List (List ℕ)). Begins l next file) (sym (pushed ∙ ap (λ (p : List ℕ). ps ++ p ∷ []) is)) (begins_more ps at next payload file b r)
+
 -- the field behind an open gate, and the payload that it tells
 pub region_at : (at : ℕ) (file field : List ℕ) (n : ℕ) → at + 9 + n ≤ length file → get_or file at 0 ≡ 1 → field ≡ take 8 (drop (at + 1) file) → u64_word n ≡ field → IsRegion at (at + 9 + n) (payload_at at (at + 9 + n) file) file
 region_at at file field n fits is_open read back =
