@@ -1,5 +1,5 @@
 -- Two calls in a row.
-use Rattle.std.proofs.Common.{◌≡◌, ℕ, ◌+◌, ◌≤◌, Bool, IsTrue, List, ◌∷◌, ◌++◌, [], Option, Some, None, refl, sym, ◌∙◌, ap, subst, arith}
+use Rattle.std.proofs.Common.{◌≡◌, ℕ, ◌+◌, ◌≤◌, Bool, IsTrue, List, ◌∷◌, ◌++◌, [], Option, Some, None, Result, Ok, Err, OnOk, refl, sym, ◌∙◌, ap, subst, arith}
 use Rattle.std.proofs.lemmas.List.{append-nil}
 use Rattle.den_disk.specs.Files.{Files, Kind}
 use Rattle.den_disk.specs.Goes.{Rose, DiskGoesOn, LinkGoesOn, ClockGoesOn}
@@ -68,3 +68,8 @@ found_some limit at left rest found frame same is h = ap (λ n. frames n left) (
 
 pub found_none : (limit : ℕ) (left rest : List ℕ) (found : Option Frame) → found ≡ None → Found limit left rest found → (left ≡ []) × (rest ≡ [])
 found_none limit left rest found is h = subst (λ f. Found limit left rest f) is h
+
+-- three clauses of one answer
+pub on_ok_three : {T E P Q R X : Type 0} (r : Result T E) → (P → Q → R → X) → OnOk r P → OnOk r Q → OnOk r R → OnOk r X
+on_ok_three (Ok x) f p q r = f p q r
+on_ok_three (Err e) f p q r = tt

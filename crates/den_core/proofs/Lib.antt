@@ -1,4 +1,5 @@
 pub mod Cutting
+pub mod Early
 pub mod FirstFrame
 pub mod FramesSoFar
 pub mod GoesOn

@@ -1,3 +1,4 @@
 pub mod Answers
+pub mod Early
 pub mod Input
 pub mod Refusals

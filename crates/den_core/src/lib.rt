@@ -6,4 +6,5 @@ mod server;
 mod stepper;
 
 pub use frame::FrameReader;
+pub use server::{early_is_refused, run_from, serve};
 pub use stepper::{StepOut, Stepper};
