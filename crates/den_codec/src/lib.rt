@@ -7,6 +7,7 @@ mod frames;
 mod log_words;
 mod reads;
 mod region_words;
+mod reply_words;
 mod request_words;
 mod state_words;
 mod word;

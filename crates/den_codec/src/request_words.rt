@@ -1,15 +1,24 @@
 //! The words of requests.
 #![tactic(auto, using(crate::proofs::Growing::grows_then))]
 
-ghost use Rattle.std.specs.Prelude.{◌≡◌, ◌++◌, Option, IfOk, OnOk};
+ghost use Rattle.std.specs.Prelude.{◌≡◌, ◌-◌, ◌^◌, ◌++◌, length, min, Option, IfOk, OnOk};
+ghost use Rattle.den_model.specs.declared.command.WriteOperation.TheVariants.{Insert};
+ghost use Rattle.den_model.specs.declared.request.Request.TheVariants.{Write, Read, Watch};
+ghost use Rattle.den_model.specs.Spelling.{policy_number, operation_word, request_word};
+ghost use Rattle.den_model.specs.Words.{FitsOperation, FitsRequest, IsRequestWord};
 ghost use Rattle.den_model.specs.Reading.{policy_named, ttl_of, insert_asked_at, delete_asked_at, swap_asked_at, operation_at, write_at, read_at, scan_at, watch_at, request_at, request_in};
+ghost use Rattle.den_model.proofs.RequestWords.{request_found, request_read, request_written};
 ghost use Rattle.den_codec.specs.Gives.{Gives};
+ghost use Rattle.den_codec.specs.Grows.{Grows};
 
-use crate::ReadError;
-use crate::fields::{take_blob, take_byte, take_truth, take_u32, take_u64};
-use crate::word::{take_list, take_option};
+use crate::fields::{
+    put_blob, put_byte, put_truth, put_u32, put_u64, take_blob, take_byte, take_truth, take_u32,
+    take_u64,
+};
+use crate::word::{list_size, option_size, put_list, put_option, take_list, take_option};
+use crate::{ReadError, Word};
 use den_model::{
-    ClientReadRequest, ClientWriteRequest, ReadConsistencyPolicy, Request, WriteOperation,
+    Blob, ClientReadRequest, ClientWriteRequest, ReadConsistencyPolicy, Request, WriteOperation,
 };
 use std::alloc::{AllocError, Global};
 
@@ -135,19 +144,201 @@ fn take_watch(alloc: Global, client_id: u32, bytes: &[u8]) -> Result<(Request, &
     Ok((watch, rest))
 }
 
-#[tactic(auto, unfolding(den_model::specs::Reading::request_at))]
-fn take_request(alloc: Global, bytes: &[u8]) -> Result<(Request, &[u8]), ReadError>
-    ensures { Gives (λ x. (x.0, x.1.now)) result (request_at bytes.now) }
+fn policy_number(policy: Option<ReadConsistencyPolicy>) -> u8
+    ensures { result ≡ policy_number policy }
 {
-    let (tag, rest) = take_byte(bytes)?;
-    let (client_id, rest) = take_u32(rest)?;
-    match tag {
-        1 => take_write(alloc, client_id, rest),
-        2 => take_read(alloc, client_id, rest),
-        3 => take_scan(alloc, client_id, rest),
-        4 => take_watch(alloc, client_id, rest),
-        5 => Ok((Request::Members { client_id }, rest)),
-        _ => Err(ReadError::NoWord),
+    match policy {
+        None => 0,
+        Some(ReadConsistencyPolicy::LinearizableRead) => 1,
+        Some(ReadConsistencyPolicy::LeaseRead) => 2,
+        Some(ReadConsistencyPolicy::EventualConsistency) => 3,
+    }
+}
+
+fn put_insert(
+    out: &mut Vec<u8>,
+    key: &Blob,
+    value: &Blob,
+    ttl_secs: Option<u64>,
+) -> Result<(), AllocError>
+    ensures ok { OnOk result (out.new.items ≡ out.old.items ++ operation_word (Some (Insert key.now value.now ttl_secs))) }
+    ensures fits { OnOk result (FitsOperation (Some (Insert key.now value.now ttl_secs))) }
+    ensures grows { Grows out.old.items out.new.items }
+{
+    put_byte(out, 1)?;
+    put_blob(out, key)?;
+    put_blob(out, value)?;
+    put_u64(out, ttl_secs.unwrap_or(0))
+}
+
+fn put_operation(out: &mut Vec<u8>, operation: &Option<WriteOperation>) -> Result<(), AllocError>
+    ensures ok { OnOk result (out.new.items ≡ out.old.items ++ operation_word operation.now) }
+    ensures fits { OnOk result (FitsOperation operation.now) }
+    ensures grows { Grows out.old.items out.new.items }
+{
+    match operation {
+        None => put_byte(out, 0),
+        Some(
+            WriteOperation::Insert {
+                key,
+                value,
+                ttl_secs,
+            },
+        ) => put_insert(out, key, value, *ttl_secs),
+        Some(WriteOperation::Delete { key }) => {
+            put_byte(out, 2)?;
+            put_blob(out, key)
+        }
+        Some(
+            WriteOperation::CompareAndSwap {
+                key,
+                expected,
+                new_value,
+            },
+        ) => {
+            put_byte(out, 3)?;
+            put_blob(out, key)?;
+            put_option(out, expected)?;
+            put_blob(out, new_value)
+        }
+    }
+}
+
+#[tactic(auto, unfolding(den_model::specs::Spelling::u64_word))]
+fn operation_size(operation: &Option<WriteOperation>) -> u64
+    ensures { result ≡ min (length (operation_word operation.now)) (2 ^ 64 - 1) }
+{
+    match operation {
+        None => 1,
+        Some(
+            WriteOperation::Insert {
+                key,
+                value,
+                ttl_secs: _,
+            },
+        ) => key.size().saturating_add(value.size()).saturating_add(9),
+        Some(WriteOperation::Delete { key }) => key.size().saturating_add(1),
+        Some(
+            WriteOperation::CompareAndSwap {
+                key,
+                expected,
+                new_value,
+            },
+        ) => key
+            .size()
+            .saturating_add(option_size(expected))
+            .saturating_add(new_value.size())
+            .saturating_add(1),
+    }
+}
+
+fn put_write(out: &mut Vec<u8>, write: &ClientWriteRequest) -> Result<(), AllocError>
+    ensures ok { OnOk result (out.new.items ≡ out.old.items ++ request_word (Write write.now)) }
+    ensures fits { OnOk result (FitsRequest (Write write.now)) }
+    ensures grows { Grows out.old.items out.new.items }
+{
+    put_byte(out, 1)?;
+    put_u32(out, write.client_id)?;
+    put_operation(out, &write.command)
+}
+
+fn put_read(out: &mut Vec<u8>, read: &ClientReadRequest) -> Result<(), AllocError>
+    ensures ok { OnOk result (out.new.items ≡ out.old.items ++ request_word (Read read.now)) }
+    ensures fits { OnOk result (FitsRequest (Read read.now)) }
+    ensures grows { Grows out.old.items out.new.items }
+{
+    put_byte(out, 2)?;
+    put_u32(out, read.client_id)?;
+    put_byte(out, policy_number(read.consistency_policy))?;
+    put_list(out, read.keys.as_slice())
+}
+
+fn put_watch(
+    out: &mut Vec<u8>,
+    client_id: u32,
+    prefix: bool,
+    prev_kv: bool,
+    key: &Blob,
+) -> Result<(), AllocError>
+    ensures ok { OnOk result (out.new.items ≡ out.old.items ++ request_word (Watch client_id prefix prev_kv key.now)) }
+    ensures fits { OnOk result (FitsRequest (Watch client_id prefix prev_kv key.now)) }
+    ensures grows { Grows out.old.items out.new.items }
+{
+    put_byte(out, 4)?;
+    put_u32(out, client_id)?;
+    put_truth(out, prefix)?;
+    put_truth(out, prev_kv)?;
+    put_blob(out, key)
+}
+
+impl Word for Request {
+    ghost word = { request_word };
+
+    ghost at = { request_at };
+
+    ghost fits = { FitsRequest };
+
+    ghost is_word = { IsRequestWord };
+
+    ghost found = { λ bytes x h e. (request_found bytes x h e).0 };
+
+    ghost again = { request_read };
+
+    ghost written = { request_written };
+
+    fn put(&self, out: &mut Vec<u8>) -> Result<(), AllocError> {
+        match self {
+            Request::Write(write) => put_write(out, write),
+            Request::Read(read) => put_read(out, read),
+            Request::Scan { client_id, prefix } => {
+                put_byte(out, 3)?;
+                put_u32(out, *client_id)?;
+                put_blob(out, prefix)
+            }
+            Request::Watch {
+                client_id,
+                prefix,
+                prev_kv,
+                key,
+            } => put_watch(out, *client_id, *prefix, *prev_kv, key),
+            Request::Members { client_id } => {
+                put_byte(out, 5)?;
+                put_u32(out, *client_id)
+            }
+        }
+    }
+
+    #[tactic(auto, unfolding(den_model::specs::Reading::request_at))]
+    fn take(alloc: Global, bytes: &[u8]) -> Result<(Request, &[u8]), ReadError> {
+        let (tag, rest) = take_byte(bytes)?;
+        let (client_id, rest) = take_u32(rest)?;
+        match tag {
+            1 => take_write(alloc, client_id, rest),
+            2 => take_read(alloc, client_id, rest),
+            3 => take_scan(alloc, client_id, rest),
+            4 => take_watch(alloc, client_id, rest),
+            5 => Ok((Request::Members { client_id }, rest)),
+            _ => Err(ReadError::NoWord),
+        }
+    }
+
+    #[tactic(auto, unfolding(den_model::specs::Spelling::u32_word, den_model::specs::Spelling::u64_word))]
+    fn size(&self) -> u64 {
+        match self {
+            Request::Write(write) => operation_size(&write.command).saturating_add(5),
+            Request::Read(read) => list_size(read.keys.as_slice()).saturating_add(6),
+            Request::Scan {
+                client_id: _,
+                prefix,
+            } => prefix.size().saturating_add(5),
+            Request::Watch {
+                client_id: _,
+                prefix: _,
+                prev_kv: _,
+                key,
+            } => key.size().saturating_add(7),
+            Request::Members { client_id: _ } => 5,
+        }
     }
 }
 
@@ -156,15 +347,5 @@ fn take_request(alloc: Global, bytes: &[u8]) -> Result<(Request, &[u8]), ReadErr
 pub fn read_request(alloc: Global, bytes: &[u8]) -> Result<Option<Request>, AllocError>
     ensures { IfOk result (λ r. r ≡ request_in bytes.now) }
 {
-    match take_request(alloc, bytes) {
-        Ok((request, rest)) => {
-            if rest.is_empty() {
-                Ok(Some(request))
-            } else {
-                Ok(None)
-            }
-        }
-        Err(ReadError::NoWord) => Ok(None),
-        Err(ReadError::Memory) => Err(AllocError),
-    }
+    Request::read(alloc, bytes)
 }
