@@ -3,9 +3,11 @@ pub mod Spared
 pub mod Quiet
 pub mod Steps
 pub mod Cutting
+pub mod Early
 pub mod FirstFrame
 pub mod FramesSoFar
 pub mod GoesOn
 pub mod Lists
+pub mod Opening
 pub mod Sending
 pub mod Stretch

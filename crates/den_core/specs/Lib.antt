@@ -1,6 +1,7 @@
 pub mod Answers
 pub mod Asked
-pub mod Parts
-pub mod Joined
+pub mod Early
 pub mod Input
+pub mod Joined
+pub mod Parts
 pub mod Refusals

@@ -6,7 +6,7 @@ ghost use Rattle.den_model.specs.Reading.{request_in};
 ghost use Rattle.den_core.specs.Input.{Took, IsPiece, IsBehind, Found};
 ghost use Rattle.den_core.specs.Refusals.{IsLinkRefusal};
 
-use den_codec::{Error, Frame, Request, WriteOperation};
+use den_codec::{Error, Frame, Request, WriteOperation, read_request};
 use den_disk::{Link, LinkFault, Piece};
 use std::alloc::{AllocError, Global};
 
@@ -105,12 +105,6 @@ fn is_built(request: &Request) -> bool
         Request::Read(read) => read.keys.as_slice().len() == 1,
         Request::Scan { .. } | Request::Watch { .. } | Request::Members { .. } => false,
     }
-}
-
-fn read_request(alloc: Global, bytes: &[u8]) -> Result<Option<Request>, AllocError>
-    ensures { IfOk result (λ r. r ≡ request_in bytes.now) }
-{
-    Err(AllocError)
 }
 
 /// What a body asks: a request that this server answers, or a bad frame.

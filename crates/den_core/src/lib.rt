@@ -9,4 +9,5 @@ mod stepper;
 
 pub use engine::Engine;
 pub use frame::FrameReader;
+pub use server::{early_is_refused, run_from, serve};
 pub use stepper::{StepOut, Stepper};

@@ -1,11 +1,12 @@
 //! The loop that serves frames: each is a step, and what the step answers is sent behind it.
-ghost use Rattle.std.specs.Prelude.{◌≡◌, ◌<◌, ◌≤◌, ◌++◌, ℕ, List, drop, IsTrue, OnOk, IfErr, length, vec_len};
+ghost use Rattle.std.specs.Prelude.{◌≡◌, ◌<◌, ◌≤◌, ◌^◌, ◌-◌, ◌++◌, ℕ, List, drop, IsTrue, OnOk, IfErr, length, vec_len};
 ghost use Rattle.den_disk.specs.Goes.{Rose, IsPrefix, stamped, added, DiskGoesOn, LinkGoesOn, ClockGoesOn};
 ghost use Rattle.den_model.specs.Crash.{Survives, IsWhole, IsDone, IsServed, Tells};
 ghost use Rattle.den_model.specs.Frames.{framed, frames, IsBuiltFrame};
 ghost use Rattle.den_model.specs.Plan.{turn, turns, plan};
 ghost use Rattle.den_model.specs.Spelling.{reply_word, event_word};
 ghost use Rattle.den_core.specs.Answers.{frames_of};
+ghost use Rattle.den_core.specs.Early.{EarlyIsRefused};
 ghost use Rattle.den_core.specs.Refusals.{IsLinkRefusal, IsServeRefusal};
 
 use crate::{FrameReader, StepOut, Stepper};
@@ -170,3 +171,46 @@ pub fn serve<D: Disk, L: Link, C: Clock, S: Stepper<D>>(
         serve_frame(stepper, disk, link, frame, moment, &mut buffer)?;
     }
 }
+
+/// Opens an engine at the clock's reading, and serves each frame of the input, to its end. A body may be no longer than
+/// the limit.
+pub fn run_from<D: Disk, L: Link, C: Clock, S: Stepper<D>>(
+    stepper: &mut S,
+    disk: &mut D,
+    link: &mut L,
+    clock: &mut C,
+    limit: u32,
+    alloc: Global,
+) -> Result<(), Error>
+    requires ready { S.ready stepper.old }
+    requires rests { IsTrue (D.kind disk.old).tells → S.rests stepper.old (D.content disk.old) }
+    requires term { (S.kv stepper.old).durable.term < 2 ^ 64 - 1 }
+    requires index { (S.kv stepper.old).durable.last_index < 2 ^ 64 - 1 }
+
+    // At Ok exactly the plan's output was sent, and its end is on the disk.
+    ensures served { OnOk result (Tells (D.kind disk.old).tells (L.tells link.old) (C.tells clock.new)
+        → let readings = added (C.readings clock.old) (C.readings clock.new) in
+        IsServed S.holds (D.images disk.new) (D.moment disk.new) (L.left link.new) (length readings) (length (frames limit (L.left link.old)))
+        (added (L.sent link.old) (L.sent link.new)) (S.kv stepper.old) (plan (S.kv stepper.old) (frames limit (L.left link.old)) readings)) }
+
+    // At every exit, and after a crash at any moment, inside a call too, the disk stands for the state after a prefix
+    // of the plan that holds each step of which a byte was sent.
+    ensures any_moment { Tells (D.kind disk.old).tells (L.tells link.old) (C.tells clock.new)
+        → Survives S.holds (D.images disk.new) (D.moment disk.old) (D.moment disk.new) (added (L.sent link.old) (L.sent link.new))
+        (S.kv stepper.old) (plan (S.kv stepper.old) (frames limit (L.left link.old)) (added (C.readings clock.old) (C.readings clock.new))) }
+    ensures disk { DiskGoesOn D.kind D.moment D.images D.faults disk.old disk.new }
+    ensures link { LinkGoesOn L.tells L.sent L.budget L.taken L.faults link.old link.new }
+    ensures clock { ClockGoesOn C.tells C.readings clock.old clock.new }
+    ensures ready { OnOk result (S.ready stepper.new) }
+    ensures rests { OnOk result (IsTrue (D.kind disk.old).tells → S.rests stepper.new (D.content disk.new)) }
+    ensures refused { IfErr result (λ e. IsServeRefusal (Rose (D.faults disk.old) (D.faults disk.new)) (Rose (L.faults link.old) (L.faults link.new)) (D.kind disk.old).limit e) }
+{
+    let moment = clock.now().max(1);
+    stepper.open_at(disk, moment)?;
+    serve(stepper, disk, link, clock, limit, alloc)
+}
+
+/// The crash clause refuses a reply that is sent before its step.
+pub fn early_is_refused()
+    ensures { EarlyIsRefused }
+{}
