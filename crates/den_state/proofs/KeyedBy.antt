@@ -1,5 +1,5 @@
 -- What is done to a map is done to its table.
-use Rattle.std.proofs.Common.{◌≡◌, ℕ, true, false, cond, List, [], ◌∷◌, Some, refl, ap}
+use Rattle.std.proofs.Common.{◌≡◌, ℕ, Bool, true, false, cond, filter, List, [], ◌∷◌, Some, refl, ap}
 use Rattle.std.specs.Global.{Vec}
 use Rattle.std.specs.Ordering.{is_eq, match_ordering}
 use Rattle.std.specs.declared.cmp.Ordering.TheVariants.{Less, Equal, Greater}
@@ -27,4 +27,12 @@ keyed_set {X} (e ∷ es) k x =
       | Less ↦ refl
       | Equal ↦ refl
       | Greater ↦ ap (λ (t : Table X). (e.0.items, e.1) ∷ t) (keyed_set es k x)
+    ]
+
+pub keyed_filter : {X : Type 0} (p : List ℕ × X → Bool) (es : List (Vec ℕ × X)) → keyed (filter (λ e. p (e.0.items, e.1)) es) ≡ filter p (keyed es)
+keyed_filter p [] = refl
+keyed_filter {X} p (e ∷ es) =
+    elim (p (e.0.items, e.1)) as (λ b. keyed (cond b (e ∷ filter (λ e. p (e.0.items, e.1)) es) (filter (λ e. p (e.0.items, e.1)) es)) ≡ cond b ((e.0.items, e.1) ∷ filter p (keyed es)) (filter p (keyed es))) [
+      | true ↦ ap (λ (t : Table X). (e.0.items, e.1) ∷ t) (keyed_filter p es)
+      | false ↦ keyed_filter p es
     ]

@@ -1,2 +1,4 @@
 pub mod Chunk
+pub mod Fold
+pub mod Journal
 pub mod Keyed

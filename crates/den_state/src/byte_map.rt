@@ -1,7 +1,9 @@
 //! A map keyed by bytes.
 ghost use Rattle.std.specs.Prelude.{◌≡◌, ℕ, List, [], Option, option_copied, OnOk, OnErr, is_some, length};
+ghost use Rattle.den_model.specs.Apply.{is_expired, kept_pairs, kept_expiries};
 ghost use Rattle.den_model.specs.Table.{at, set, unset, is_held};
 
+use den_codec::Held;
 use std::alloc::{AllocError, Global};
 use std::collections::BTreeMap;
 use std::marker::Model;
@@ -73,5 +75,34 @@ impl<V: Drop> ByteMap<V> {
         ensures { self.new ≡ unset self.old key.now }
     {
         self.map.remove(key);
+    }
+}
+
+impl ByteMap<u64> {
+    // Whether the key has an expiry of at most the moment.
+    fn is_expired(&self, key: &[u8], moment: u64) -> bool
+        ensures { result ≡ is_expired self.now moment key.now }
+    {
+        match self.get(key) {
+            None => false,
+            Some(expiry) => *expiry <= moment,
+        }
+    }
+
+    /// Takes away the expiries that are at most the moment.
+    pub fn drop_until(&mut self, moment: u64)
+        ensures { self.new ≡ kept_expiries moment self.old }
+    {
+        self.map.retain(|_, expiry| moment < *expiry);
+    }
+}
+
+impl ByteMap<Held> {
+    /// Takes away each key whose expiry is at most the moment.
+    pub fn drop_expired(&mut self, expiries: &ByteMap<u64>, moment: u64)
+        ensures { self.new ≡ kept_pairs expiries.now moment self.old }
+    {
+        self.map
+            .retain(|key, _| !expiries.is_expired(key.as_slice(), moment));
     }
 }

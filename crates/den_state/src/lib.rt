@@ -2,7 +2,10 @@
 #![tactic(auto)]
 
 mod byte_map;
+mod fold;
 mod machine;
+mod map;
 
 pub use byte_map::ByteMap;
+pub use fold::FoldError;
 pub use machine::StateMachine;
