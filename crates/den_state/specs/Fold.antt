@@ -1,5 +1,6 @@
 -- What a fold over the journal promises.
 use Rattle.std.specs.Prelude.{◌≡◌, Option, Some, None, Result, Ok, Err}
+use Rattle.den_model.specs.declared.log_id.LogId.{LogId}
 use Rattle.den_model.specs.declared.journal.JournalRecord.{JournalRecord}
 use Rattle.den_model.specs.declared.journal.JournalRecord.TheVariants.{Noop, Insert, Delete, CasFailed, Cleanup}
 use Rattle.den_model.specs.Apply.{kept_pairs, kept_expiries}
@@ -24,3 +25,11 @@ carried s (Cleanup moment) = record s {
   pairs = kept_pairs s.expiries moment s.pairs;
   expiries = kept_expiries moment s.expiries;
 }
+
+-- the place of the entry that a record is of
+abbrev pub place_of : JournalRecord → Option LogId
+place_of (Noop index term) = Some (record { index = index; term = term })
+place_of (Insert index term key value expiry) = Some (record { index = index; term = term })
+place_of (Delete index term key) = Some (record { index = index; term = term })
+place_of (CasFailed index term) = Some (record { index = index; term = term })
+place_of (Cleanup moment) = None

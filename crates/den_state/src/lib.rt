@@ -2,6 +2,7 @@
 #![tactic(auto)]
 
 mod byte_map;
+mod chunk;
 mod fold;
 mod machine;
 mod map;

@@ -1,13 +1,13 @@
 //! The map in memory, and what a record of the journal does to it.
-ghost use Rattle.std.specs.Prelude.{◌≡◌, ◌<◌, ◌≤◌, ℕ, List, length, Option, option_map, Some, None, IfOk, OnOk, nat_eq, is_some};
+ghost use Rattle.std.specs.Prelude.{◌≡◌, ◌<◌, ◌≤◌, ℕ, List, [], length, Option, option_map, Some, None, IfOk, OnOk, nat_eq, is_some};
 ghost use Rattle.std.specs.Option.{option_eq};
 ghost use Rattle.std.specs.Cmp.Lexicographic.{pointwise};
 ghost use Rattle.den_model.specs.Apply.{value_at, seconds_after, kept_pairs, kept_expiries};
-ghost use Rattle.den_model.specs.MapState.{MapState, empty_map, part_of, with_pair, map_after_record};
-ghost use Rattle.den_state.specs.Fold.{Folds, carried};
+ghost use Rattle.den_model.specs.MapState.{MapState, empty_map, part_of, with_pair};
+ghost use Rattle.den_state.specs.Fold.{carried};
 ghost use Rattle.den_state.specs.Journal.{expiry_of, recorded};
 
-use crate::{ByteMap, FoldError};
+use crate::ByteMap;
 use den_codec::{Blob, Command, Entry, Held, JournalRecord, LogId};
 use std::alloc::{AllocError, Global};
 use std::marker::Model;
@@ -39,14 +39,14 @@ fn expiry_of(moment: u64, ttl_secs: Option<u64>) -> u64
 }
 
 impl Map {
-    /// No pair, no expiry, and the mark at 0.
-    pub fn new(alloc: Global) -> Map
-        ensures { result ≡ empty_map }
+    /// No pair and no expiry, and this mark.
+    pub fn at(alloc: Global, mark: LogId) -> Map
+        ensures { result ≡ record { pairs = []; expiries = []; mark = mark } }
     {
         Map {
             pairs: ByteMap::new(alloc),
             expiries: ByteMap::new(alloc),
-            mark: LogId { index: 0, term: 0 },
+            mark,
         }
     }
 
@@ -65,6 +65,13 @@ impl Map {
         ensures { result ≡ self.now.mark }
     {
         self.mark
+    }
+
+    /// Moves the mark.
+    pub fn set_mark(&mut self, mark: LogId)
+        ensures { self.new ≡ record self.old { mark = mark } }
+    {
+        self.mark = mark;
     }
 
     /// How many pairs there are.
@@ -137,7 +144,8 @@ impl Map {
         Ok(record)
     }
 
-    fn set_pair(
+    /// Sets a pair, and its expiry where that is not 0.
+    pub fn set_pair(
         &mut self,
         alloc: Global,
         key: &Blob,
@@ -153,7 +161,8 @@ impl Map {
         Ok(())
     }
 
-    fn carry_out(&mut self, alloc: Global, journaled: &JournalRecord) -> Result<(), AllocError>
+    /// What a record does to pairs and expiries.
+    pub fn carry_out(&mut self, alloc: Global, journaled: &JournalRecord) -> Result<(), AllocError>
         ensures { OnOk result (self.new ≡ carried self.old journaled.now) }
     {
         match journaled {
