@@ -1,0 +1,5 @@
+pub mod Written
+pub mod Beside
+pub mod Calm
+pub mod Runs
+pub mod Frame

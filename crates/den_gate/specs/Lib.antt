@@ -1,0 +1,5 @@
+pub mod Causes
+pub mod Gate
+pub mod Loading
+pub mod Slot
+pub mod Steps
