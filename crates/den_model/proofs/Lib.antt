@@ -2,7 +2,10 @@ pub mod Numbers
 pub mod Cut
 pub mod Spells
 pub mod LogSpells
+pub mod Tagged
+pub mod RegionSpells
 pub mod RequestSpells
 pub mod Runs
 pub mod Order
+pub mod Rising
 pub mod Tail
