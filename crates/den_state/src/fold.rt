@@ -32,7 +32,7 @@ fn place_of(journaled: &JournalRecord) -> Option<LogId>
         | JournalRecord::Insert { index, term, .. }
         | JournalRecord::Delete { index, term, .. }
         | JournalRecord::CasFailed { index, term } => Some(LogId {
-            index: *index,
+            index: index.get(),
             term: *term,
         }),
         JournalRecord::Cleanup { .. } => None,

@@ -9,6 +9,7 @@ ghost use Rattle.den_state.specs.Journal.{expiry_of, recorded};
 
 use crate::ByteMap;
 use den_codec::{Blob, Command, Entry, Held, JournalRecord, LogId};
+use den_model::Positive;
 use std::alloc::{AllocError, Global};
 use std::marker::Model;
 
@@ -103,7 +104,7 @@ impl Map {
     pub fn record_of(&self, entry: &Entry) -> Result<JournalRecord, AllocError>
         ensures { IfOk result (λ r. r ≡ recorded self.now entry.now) }
     {
-        let index = entry.index();
+        let index = Positive::of(entry.index());
         let term = entry.term();
         let record = match entry.command() {
             Command::Noop => JournalRecord::Noop { index, term },
@@ -185,8 +186,8 @@ impl Map {
                 self.expiries.remove(key.as_slice());
             }
             JournalRecord::Cleanup { moment } => {
-                self.pairs.drop_expired(&self.expiries, *moment);
-                self.expiries.drop_until(*moment);
+                self.pairs.drop_expired(&self.expiries, moment.get());
+                self.expiries.drop_until(moment.get());
             }
         }
         Ok(())
