@@ -3,3 +3,6 @@ pub mod Beside
 pub mod Calm
 pub mod Runs
 pub mod Frame
+pub mod Families
+pub mod Settling
+pub mod Refusals

@@ -183,17 +183,3 @@ module _ {D : Type 0} (content : D → Content) (moment : D → ℕ) (images : D
         (λ t files k. record { from = from_then slot (before old) (before mid) at_mid files k.from; stands = k.stands }) second.any_moment);
     spares = spares_then second.spares;
   }
-
-synced_image : (c : Content) (files : Files) → IsImage (synced c) files → IsImage c files
-synced_image c files i q = record { as_long = (i q).as_long; same = λ k lt settled. (i q).same k lt (λ none. absurd none) }
-
--- a sync leaves nothing that could not be left before it
-pub sync_keeps : {D T E : Type 0} (content : D → Content) (moment : D → ℕ) (images : D → ℕ → Files → Type 0) (result : Result T E) (old new : D)
-    → ((files : Files) → images old (moment old) files ↔ IsImage (content old) files) → ((files : Files) → images new (moment new) files ↔ IsImage (content new) files)
-    → Changes content moment images result (IsSynced (content old)) (λ _. ⊥) (IsImage (content old)) old new
-    → Leaves content moment images (λ t files. images old (moment old) files) old new
-sync_keeps content moment images result old new now now' w =
-    let Inv : Content → Type 0 = λ c. (files : Files) → IsImage c files → IsImage (content old) files in
-    let after : Inv (content new) = becomes (moment old + 2 ≤ moment new) result Inv (IsSynced (content old)) (λ _. ⊥) (content old) (content new) w.ok w.err (λ files i. i)
-    (λ is. subst Inv (sym is) (λ files i. synced_image (content old) files i)) (λ none. absurd none) in
-    changes content moment images (λ t files. images old (moment old) files) result _ _ _ old new w (λ files i. i) (λ t files i. (now files).1 i) (λ files i. (now files).1 (after files ((now' files).0 i)))

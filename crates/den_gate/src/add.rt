@@ -4,7 +4,7 @@ ghost use Rattle.std.specs.Prelude.{◌≡◌, ◌+◌, ◌≤◌, ◌<◌, ◌^
 ghost use Rattle.den_disk.specs.Crash.{Stays};
 ghost use Rattle.den_disk.specs.Goes.{HasCause, Rose};
 ghost use Rattle.den_gate.specs.Causes.{Because};
-ghost use Rattle.den_gate.specs.Slot.{IsShort, room_for};
+ghost use Rattle.den_gate.specs.Slot.{IsShort, payloads_of, room_for};
 ghost use Rattle.den_gate.specs.Steps.{IsOpen, IsStaged, RunKeeps, RunKeepsOrAdds};
 
 use crate::GateError;
@@ -13,7 +13,8 @@ use den_disk::{Disk, DiskFault, Place};
 
 // Adds a payload to the regions that end there.
 pub fn add<D: Disk>(disk: &mut D, slot: Place, end: u64, payload: &[u8]) -> Result<(), GateError>
-    requires { end ≤ 2 ^ 62 }
+    requires end { end ≤ 2 ^ 62 }
+    requires open { IsTrue (D.kind disk.old).tells → IsOpen slot (payloads_of ((D.content disk.old).reading slot)) end (D.content disk.old) }
     ensures kind { D.kind disk.new ≡ D.kind disk.old }
     ensures later { D.faults disk.old ≤ D.faults disk.new }
     ensures end { OnOk result (end + (9 + length payload.now) ≤ 2 ^ 62) }
