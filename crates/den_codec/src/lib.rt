@@ -2,12 +2,23 @@
 #![tactic(auto)]
 
 mod error;
+mod fields;
+mod log_words;
+mod reads;
+mod region_words;
+mod state_words;
+mod word;
 
 pub use den_model::{
     ApplyResult, Blob, ClientReadRequest, ClientResponse, ClientResponsePayload,
     ClientWriteRequest, ClusterMembership, Command, Entry, ErrorCode, Frame, HardState, Held,
-    JournalRecord, KvEntry, Label, LeaderHint, LogId, LogRegion, NewEntries, NodeMeta,
-    ReadConsistencyPolicy, Refusal, Reply, Request, Rows, Running, ScanResult, Setting,
-    StateRegion, StoredPair, VotedFor, WatchEvent, WatchEventType, Watcher, WriteOperation,
+    JournalRecord, KvEntry, Label, LeaderHint, LogId, LogRegion, NewEntries, NodeMeta, Positive,
+    ReadConsistencyPolicy, Refusal, Replacement, Reply, Request, Rows, Running, ScanResult,
+    Setting, StateRegion, StoredPair, VotedFor, WatchEvent, WatchEventType, Watcher,
+    WriteOperation,
 };
 pub use error::{ConfigPlace, Error};
+pub use reads::ReadError;
+pub use region_words::write_append;
+pub use state_words::write_records;
+pub use word::Word;

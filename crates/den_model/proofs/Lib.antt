@@ -4,6 +4,8 @@ pub mod Spells
 pub mod LogSpells
 pub mod Tagged
 pub mod RegionSpells
+pub mod StateSpells
+pub mod RoundTrips
 pub mod RequestSpells
 pub mod Runs
 pub mod Order

@@ -58,10 +58,10 @@ unfolding log_region_at
 region_found [] y rest h e = absurd (no_none (y, rest) e)
 region_found (tag ∷ bytes) y rest h e =
     let b = behind_or {fits = FitsLogRegion} {word = log_region_word} tag 1 (behind_spelled 1 spells_append (λ x f. f) (λ x. refl))
-        (behind_or tag 2 (behind_spelled 2 spells_truncate (λ x f. f) (λ x. refl))
-        (behind_or tag 3 (behind_spelled 3 spells_purge (λ x f. f) (λ x. refl))
-        (behind_or tag 4 (behind_spelled 4 spells_replace (λ x f. f) (λ x. refl))
-        (behind_or tag 5 (behind_done 5 log.Reset tt (λ rest. refl)) (behind_none tag))))) in
+    (behind_or tag 2 (behind_spelled 2 spells_truncate (λ x f. f) (λ x. refl))
+    (behind_or tag 3 (behind_spelled 3 spells_purge (λ x f. f) (λ x. refl))
+    (behind_or tag 4 (behind_spelled 4 spells_replace (λ x f. f) (λ x. refl))
+    (behind_or tag 5 (behind_done 5 log.Reset tt (λ rest. refl)) (behind_none tag))))) in
     let t = b.found bytes y rest (λ i. h (suc i)) e in
     (y, refl, t.0, t.1)
 
