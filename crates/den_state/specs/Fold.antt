@@ -1,5 +1,5 @@
 -- What a fold over the journal promises.
-use Rattle.std.specs.Prelude.{◌≡◌, Option, Some, None, Result, Ok, Err}
+use Rattle.std.specs.Prelude.{◌≡◌, ℕ, Option, Some, None, Result, Ok, Err}
 use Rattle.den_model.specs.declared.log_id.LogId.{LogId}
 use Rattle.den_model.specs.declared.journal.JournalRecord.{JournalRecord}
 use Rattle.den_model.specs.declared.journal.JournalRecord.TheVariants.{Noop, Insert, Delete, CasFailed, Cleanup}
@@ -8,12 +8,20 @@ use Rattle.den_model.specs.Table.{unset}
 use Rattle.den_model.specs.MapState.{MapState, with_pair}
 use Rattle.den_state.specs.declared.fold.FoldError.{FoldError}
 use Rattle.den_state.specs.declared.fold.FoldError.TheVariants.{Memory, Unlawful}
+use Rattle.den_state.specs.declared.fold.ListError.{ListError}
+use Rattle.den_state.specs.declared.fold.ListError.TheVariants as list_error
 
 -- it ends where the definition is lawful, with what the definition gives, unless memory ran out
 abbrev pub Folds : Result Unit FoldError → Option MapState → MapState → Type 0
 Folds (Ok done) given new = given ≡ Some new
 Folds (Err Memory) given new = Unit {0}
 Folds (Err Unlawful) given new = given ≡ None
+
+-- the same of a list, whose first unlawful payload has a place
+abbrev pub FoldsList : Result Unit ListError → Result MapState ℕ → MapState → Type 0
+FoldsList (Ok done) given new = given ≡ Ok new
+FoldsList (Err list_error.Memory) given new = Unit {0}
+FoldsList (Err (list_error.Unlawful offset)) given new = given ≡ Err offset
 
 -- pairs and expiries after a record
 abbrev pub carried : MapState → JournalRecord → MapState

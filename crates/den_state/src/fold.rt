@@ -1,11 +1,12 @@
 //! The fold over the journal: what records and regions make of the map.
-ghost use Rattle.std.specs.Prelude.{◌≡◌, OnOk};
-ghost use Rattle.den_model.specs.MapState.{with_pairs, map_after_record, map_after_records, map_after};
+ghost use Rattle.std.specs.Prelude.{◌≡◌, ◌<◌, ◌^◌, OnOk, length};
+ghost use Rattle.den_model.specs.MapState.{with_pairs, map_after_record, map_after_records, map_after, map_after_payload, map_from};
+ghost use Rattle.den_model.specs.Regions.{open_regions, placed};
 ghost use Rattle.den_state.specs.declared.fold.FoldError.TheVariants.{Memory};
-ghost use Rattle.den_state.specs.Fold.{Folds, place_of};
+ghost use Rattle.den_state.specs.Fold.{Folds, FoldsList, place_of};
 
 use crate::map::Map;
-use den_codec::{Held, JournalRecord, LogId, StateRegion, StoredPair};
+use den_codec::{Blob, Held, JournalRecord, LogId, StateRegion, StoredPair, Word};
 use std::alloc::{AllocError, Global};
 
 /// Want of memory, or what is not lawful.
@@ -13,6 +14,13 @@ use std::alloc::{AllocError, Global};
 pub enum FoldError {
     Memory,
     Unlawful,
+}
+
+/// Want of memory, or the place of a payload that is no lawful region.
+#[derive(Debug, Drop)]
+pub enum ListError {
+    Memory,
+    Unlawful { offset: u64 },
 }
 
 impl From<AllocError> for FoldError {
@@ -114,5 +122,33 @@ impl Map {
                 Ok(())
             }
         }
+    }
+
+    /// Takes on the region whose word the payload is.
+    #[tactic(auto, unfolding(den_model::specs::MapState::map_after_payload, den_model::specs::Reading::state_region_in))]
+    pub fn add_payload(&mut self, alloc: Global, payload: &[u8]) -> Result<(), FoldError>
+        ensures { Folds result (map_after_payload self.old payload.now) self.new }
+    {
+        match StateRegion::read(alloc, payload)? {
+            None => Err(FoldError::Unlawful),
+            Some(region) => self.add_region(alloc, &region),
+        }
+    }
+
+    /// Takes on payloads in order, the first of them at place 0.
+    pub fn add_list(&mut self, alloc: Global, list: &[Blob]) -> Result<(), ListError>
+        ensures { length (open_regions list.now) < 2 ^ 64 → FoldsList result (map_from self.old (placed 0 list.now)) self.new }
+    {
+        let mut offset = 0u64;
+        for payload in list {
+            let payload = payload.as_slice();
+            match self.add_payload(alloc, payload) {
+                Ok(()) => {}
+                Err(FoldError::Memory) => return Err(ListError::Memory),
+                Err(FoldError::Unlawful) => return Err(ListError::Unlawful { offset }),
+            }
+            offset = offset.saturating_add(9).saturating_add(payload.len() as u64);
+        }
+        Ok(())
     }
 }

@@ -8,8 +8,7 @@ ghost use Rattle.den_state.specs.Fold.{carried};
 ghost use Rattle.den_state.specs.Journal.{expiry_of, recorded};
 
 use crate::ByteMap;
-use den_codec::{Blob, Command, Entry, Held, JournalRecord, LogId};
-use den_model::Positive;
+use den_codec::{Blob, Command, Entry, Held, JournalRecord, LogId, Positive};
 use std::alloc::{AllocError, Global};
 use std::marker::Model;
 
