@@ -1,13 +1,9 @@
 -- What lists of payloads and the files that hold them give of the map.
-use Rattle.std.proofs.Common.{◌≡◌, ℕ, ◌+◌, ◌<◌, ◌≤◌, List, [], ◌∷◌, ◌++◌, length, Option, Some, None, Result, Ok, Err, refl, sym, ap, subst, ◌∙◌}
-use Rattle.den_disk.specs.declared.place.Family.{Family}
+use Rattle.std.proofs.Common.{◌≡◌, ℕ, ◌+◌, List, [], ◌∷◌, ◌++◌, length, Option, Some, None, Result, Ok, Err, refl, sym, ap, ◌∙◌}
 use Rattle.den_disk.specs.declared.place.Family.TheVariants as family
-use Rattle.den_disk.specs.declared.place.Part.TheVariants.{Head}
-use Rattle.den_disk.specs.declared.place.Place.{Place}
 use Rattle.den_disk.specs.Files.{Files}
-use Rattle.den_disk.specs.Families.{SameOf}
 use Rattle.den_model.specs.Regions.{Region, regions, placed}
-use Rattle.den_model.specs.Image.{named, head_of, slot_of, meaning_of, map_in, ok}
+use Rattle.den_model.specs.Image.{slot_of, meaning_of, map_in}
 use Rattle.den_model.specs.MapState.{MapState, empty_map, map_after_payload, map_from}
 
 -- ---- one payload more
@@ -40,19 +36,6 @@ list_push s mid next place (q ∷ ps) p is e =
 
 -- ---- files
 
--- files whose State slot has a list give what the list gives
-pub map_of_list : (of : Family) (list : List (List ℕ)) (files : Files) (given : Result MapState ℕ) → of ≡ family.State → regions (files (slot_of of files)) ≡ Ok (placed 0 list)
-    → map_from empty_map (placed 0 list) ≡ given → map_in files ≡ given
-map_of_list of list files given of_state is gives =
-    ap (meaning_of (map_from empty_map)) (subst (λ f. regions (files (slot_of f files)) ≡ Ok (placed 0 list)) of_state is) ∙ gives
-
 -- files that cannot be read say where
 pub map_unreadable : (files : Files) (offset : ℕ) → regions (files (slot_of family.State files)) ≡ Err offset → map_in files ≡ Err offset
 map_unreadable files offset is = ap (meaning_of (map_from empty_map)) is
-
--- only the State family counts
-pub map_own : (one other : Files) → SameOf family.State one other → map_in other ≡ map_in one
-map_own one other same =
-    let head : other (head_of family.State) ≡ one (head_of family.State) = same (head_of family.State) refl in
-    let slot : slot_of family.State other ≡ slot_of family.State one = ap (λ file. record { family = family.State; part = named file }) head in
-    ap (λ file. meaning_of (map_from empty_map) (regions file)) (same (slot_of family.State other) refl ∙ ap one slot)

@@ -1,18 +1,27 @@
 //! A chunk of entries: its order, and what it makes of the map in memory.
 ghost use Rattle.std.specs.Prelude.{◌≡◌, ◌<◌, ◌||◌, None, Some, IfOk, OnOk};
-ghost use Rattle.den_model.specs.MapState.{map_applied, map_applied_all, map_after_record, map_after_records, results_of};
+ghost use Rattle.den_model.specs.MapState.{map_applied, map_applied_all, map_after_record, map_after_records, map_after_payload, results_of};
+ghost use Rattle.den_model.specs.declared.region.StateRegion.TheVariants.{Records};
+ghost use Rattle.den_model.specs.Spelling.{state_region_word};
 ghost use Rattle.den_model.specs.Step.{has_ttl};
 ghost use Rattle.den_state.specs.Chunk.{out_of_order, asks_lease};
 ghost use Rattle.den_state.specs.Journal.{recorded, all_recorded, tells_success};
 
 use crate::map::Map;
-use den_codec::{ApplyResult, Command, Entry, JournalRecord, LogId};
+use den_codec::{ApplyResult, Command, Entry, JournalRecord, LogId, write_records};
 use std::alloc::{AllocError, Global};
 
 /// What a chunk leaves: a record and a result for each entry.
 #[derive(Drop)]
 pub struct Applied {
     pub records: Vec<JournalRecord>,
+    pub results: Vec<ApplyResult>,
+}
+
+/// The same in files: the word of a region of the records.
+#[derive(Drop)]
+pub struct Journaled {
+    pub payload: Vec<u8>,
     pub results: Vec<ApplyResult>,
 }
 
@@ -99,5 +108,22 @@ impl Map {
             records.push(journaled)?;
         }
         Ok(Applied { records, results })
+    }
+
+    /// Takes on entries in order, and answers the word of the region of their records, and their results.
+    pub fn journal(&mut self, alloc: Global, chunk: &[Entry]) -> Result<Journaled, AllocError>
+        requires { out_of_order (self.old).mark.index chunk.now ≡ None }
+        ensures map { OnOk result (self.new ≡ map_applied_all self.old chunk.now) }
+        ensures payload { IfOk result (λ journaled. journaled.payload.items ≡ state_region_word (Records (all_recorded self.old chunk.now))) }
+        ensures means { IfOk result (λ journaled. map_after_payload self.old journaled.payload.items ≡ Some self.new) }
+        ensures results { IfOk result (λ journaled. journaled.results.items ≡ results_of self.old chunk.now) }
+    {
+        let applied = self.apply_all(alloc, chunk)?;
+        let mut payload = Vec::new(alloc);
+        write_records(&applied.records, &mut payload)?;
+        Ok(Journaled {
+            payload,
+            results: applied.results,
+        })
     }
 }

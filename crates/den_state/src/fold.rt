@@ -66,11 +66,7 @@ impl Map {
     }
 
     /// Takes on records in order.
-    pub fn add_records(
-        &mut self,
-        alloc: Global,
-        records: &[JournalRecord],
-    ) -> Result<(), FoldError>
+    pub fn add_records(&mut self, alloc: Global, records: &[JournalRecord]) -> Result<(), FoldError>
         ensures { Folds result (map_after_records self.old records.now) self.new }
     {
         for journaled in records {
@@ -147,7 +143,9 @@ impl Map {
                 Err(FoldError::Memory) => return Err(ListError::Memory),
                 Err(FoldError::Unlawful) => return Err(ListError::Unlawful { offset }),
             }
-            offset = offset.saturating_add(9).saturating_add(payload.len() as u64);
+            offset = offset
+                .saturating_add(9)
+                .saturating_add(payload.len() as u64);
         }
         Ok(())
     }

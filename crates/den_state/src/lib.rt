@@ -3,10 +3,11 @@
 
 mod byte_map;
 mod chunk;
+mod file_machine;
 mod fold;
 mod machine;
 mod map;
 
 pub use byte_map::ByteMap;
-pub use fold::FoldError;
+pub use file_machine::FileStateMachine;
 pub use machine::StateMachine;

@@ -11,5 +11,5 @@ invariant-loop-entry l = let rest = drop l.entry-index l.chunk in record {
   map : map_applied_all l.self rest ≡ map_applied_all l.fn.self l.chunk;
   records : l.records.items ++ all_recorded l.self rest ≡ all_recorded l.fn.self l.chunk;
   results : l.results.items ++ results_of l.self rest ≡ results_of l.fn.self l.chunk;
-  lawful : map_after_records l.fn.self l.records.items ≡ Some l.self
+  lawful : map_after_records l.fn.self l.records.items ≡ Some l.self;
 }
