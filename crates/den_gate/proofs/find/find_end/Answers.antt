@@ -1,4 +1,4 @@
-use Rattle.std.proofs.Common.{◌≡◌, ◌≢◌, ◌+◌, ◌∷◌, [], ◌++◌, refl, arith, ℕ, List, IsTrue, length, get_or, sym, ◌∙◌, ap, subst}
+use Rattle.std.proofs.Common.{◌≡◌, ◌≢◌, ◌∷◌, [], ◌++◌, refl, arith, ℕ, List, IsTrue, length, get_or, sym, ◌∙◌, ap, subst}
 use Rattle.std.proofs.lemmas.List.{get_or_past}
 use Rattle.den_disk.proofs.Moments.{stays_then}
 use Rattle.den_gate.specs.Slot.{IsRegion, IsCutShort}

@@ -1,4 +1,4 @@
-use Rattle.std.proofs.Common.{◌≡◌, ◌+◌, inr, arith, ℕ, List, length, drop, take, get_or, sym, ◌∙◌}
+use Rattle.std.proofs.Common.{◌≡◌, ◌+◌, inr, arith, length, drop, take, sym, ◌∙◌}
 use Rattle.den_model.specs.Reading.{size_at}
 use Rattle.den_gate.proofs.Written.{region_at, size_is}
 use Rattle.den_gate.proofs.Seen.{first_byte, bytes_in}

@@ -1,4 +1,4 @@
-use Rattle.std.proofs.Common.{◌≤◌, ◌+◌, IsTrue, sym, arith}
+use Rattle.std.proofs.Common.{◌≤◌, ◌+◌, sym, arith}
 use Rattle.den_gate.proofs.Seen.{seen_all}
 use Rattle.den_gate.proofs.look.look.Goals as goal
 

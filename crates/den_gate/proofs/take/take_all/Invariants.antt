@@ -1,4 +1,4 @@
-use Rattle.std.proofs.Common.{◌≡◌, ◌≤◌, ◌-◌, ℕ, List, IsTrue}
+use Rattle.std.proofs.Common.{◌≡◌, ◌≤◌, ◌-◌, IsTrue}
 use Rattle.den_disk.specs.Crash.{Stays}
 use Rattle.den_gate.specs.Slot.{Begins}
 use Rattle.den_gate.specs.Window.{Shows}

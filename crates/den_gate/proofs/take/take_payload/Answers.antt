@@ -1,4 +1,4 @@
-use Rattle.std.proofs.Common.{IsTrue, ◌∙◌}
+use Rattle.std.proofs.Common.{◌∙◌}
 use Rattle.den_gate.proofs.Seen.{seen_part}
 use Rattle.den_gate.proofs.take.take_payload.Goals as goal
 

@@ -1,4 +1,4 @@
-use Rattle.std.proofs.Common.{◌≤◌, IsTrue, sym, ◌∙◌, subst, arith}
+use Rattle.std.proofs.Common.{IsTrue, sym, ◌∙◌, subst, arith}
 use Rattle.den_disk.specs.Files.{Files}
 use Rattle.den_gate.proofs.Settling.{goes_on, Settles, settles_sync, settles_stays, settles_images}
 use Rattle.den_gate.proofs.gate.GateFile.load.Goals as goal
