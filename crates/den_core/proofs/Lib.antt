@@ -1,4 +1,5 @@
+pub mod CatchUp
 pub mod Durables
-pub mod Spared
 pub mod Quiet
+pub mod Spared
 pub mod Steps

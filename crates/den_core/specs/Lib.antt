@@ -1,4 +1,5 @@
 pub mod Answers
 pub mod Asked
-pub mod Parts
 pub mod Joined
+pub mod Opening
+pub mod Parts

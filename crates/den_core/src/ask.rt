@@ -75,7 +75,7 @@ fn command_of(operation: WriteOperation) -> Command
 }
 
 /// Whether a command sets a time to live.
-fn has_ttl(command: &Command) -> bool
+pub(crate) fn has_ttl(command: &Command) -> bool
     ensures { result ≡ has_ttl command.now }
 {
     match command {

@@ -65,7 +65,7 @@ impl<G, T, M> Engine<G, T, M> {
 }
 
 /// The current term, 0 before any was saved.
-fn current_term<D: Disk, T: MetaStore<D>>(meta: &T) -> u64
+pub(crate) fn current_term<D: Disk, T: MetaStore<D>>(meta: &T) -> u64
     ensures { result ≡ term_of (T.hard_state meta.now) }
 {
     match meta.load_hard_state() {

@@ -3,7 +3,9 @@
 
 mod ask;
 mod engine;
+mod opening;
 mod stepper;
 
 pub use engine::Engine;
+pub use opening::recover;
 pub use stepper::{StepOut, Stepper};

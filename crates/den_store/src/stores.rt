@@ -1,16 +1,18 @@
 //! What a log store and a store of the hard state are.
-ghost use Rattle.std.specs.Prelude.{◌≡◌, ◌+◌, true, IsTrue, Option, Some, OnOk, IfErr};
+ghost use Rattle.std.specs.Prelude.{◌≡◌, ◌+◌, ℕ, true, IsTrue, Option, Some, OnOk, IfOk, IfErr};
+ghost use Rattle.den_codec.specs.declared.error.Error.TheVariants.{OutOfMemory};
 ghost use Rattle.den_disk.specs.declared.place.Family.TheVariants.{Log as log_family, Meta as meta_family};
 ghost use Rattle.den_disk.specs.Files.{Files, Content, IsImage};
 ghost use Rattle.den_disk.specs.Goes.{Rose, DiskGoesOn};
 ghost use Rattle.den_disk.specs.Families.{SameOf, SparesOthers, SparesOwn, SparesImages, OldOrNew};
 ghost use Rattle.den_model.specs.Entries.{rise_from};
-ghost use Rattle.den_model.specs.Log.{Log, floor, changed, last_index};
+ghost use Rattle.den_model.specs.Log.{Log, between, floor, changed, last_index};
 ghost use Rattle.den_model.specs.declared.region.LogRegion.TheVariants.{Append};
 ghost use Rattle.den_model.specs.declared.log_id.HardState.{HardState};
 ghost use Rattle.den_store.specs.Causes.{IsRefusal};
+ghost use Rattle.den_store.specs.Order.{IsInOrder};
 
-use den_codec::{Entry, Error, HardState};
+use den_codec::{Entry, Error, HardState, LogId, Rows};
 use den_disk::Disk;
 
 /// A log: a boundary, up to which entries were purged, and entries by index, all above it.
@@ -26,6 +28,9 @@ pub trait LogStore<D: Disk>: Drop {
 
     /// It has not failed.
     ghost ready: { Self → Type 0 };
+
+    /// The number of the file in which it lies.
+    ghost place: { Self → ℕ };
 
     /// Adds entries, in place of those held from the first one's index on. A crash inside leaves the old log or the new
     /// one.
@@ -45,6 +50,22 @@ pub trait LogStore<D: Disk>: Drop {
     /// The greatest index that is held, or the boundary's, or 0.
     fn last_index(&self) -> u64
         ensures { result ≡ last_index (log self.now) };
+
+    /// The entries from a first index up to a last one.
+    fn get_entries(&self, first: u64, last: u64) -> Result<Rows<Entry>, Error>
+        ensures entries { IfOk result (λ entries. entries ≡ between first last (log self.now).entries) }
+        ensures refused { IfErr result (λ e. e ≡ OutOfMemory) };
+
+    /// The boundary, if there is one.
+    fn load_purge_boundary(&self) -> Option<LogId>
+        ensures { result ≡ (log self.now).boundary };
+
+    /// The number of the file in which it lies.
+    fn place(&self) -> u8
+        ensures { result ≡ place self.now };
+
+    /// Its entries rise above its boundary.
+    ghost in_order: { (s : Self) → IsInOrder (log s) };
 
     /// Only its own files count.
     ghost rests_own: { (s : Self) (old new : Content) → SparesOwn log_family old new → rests s old → rests s new };
