@@ -18,7 +18,7 @@ use Rattle.den_core.specs.Joined.{found_is, durable_is}
 use Rattle.den_core.specs.Parts.{durable_of, kv_of, IsCaughtUp}
 
 -- each entry has at most this index
-AllUpTo : ℕ → List LogEntry → Type 0
+unfoldable pub AllUpTo : ℕ → List LogEntry → Type 0
 AllUpTo most [] = Unit {0}
 AllUpTo most (e ∷ es) = (e.index ≤ most) × AllUpTo most es
 
@@ -34,12 +34,12 @@ unfolding AllUpTo
 up_to most [] none = tt
 up_to most (e ∷ es) none = let both = up_to_cases most e es none in (both.0, up_to most es both.1)
 
-none_above : (most : ℕ) (es : List LogEntry) → AllUpTo most es → above most es ≡ []
+pub none_above : (most : ℕ) (es : List LogEntry) → AllUpTo most es → above most es ≡ []
 unfolding AllUpTo
 none_above most [] within = refl
 none_above most (e ∷ es) within = ap (λ b. cond b (e ∷ above most es) (above most es)) (le-ltb most e.index within.0) ∙ none_above most es within.1
 
-up_to_more : (most more : ℕ) (es : List LogEntry) → most ≤ more → AllUpTo most es → AllUpTo more es
+pub up_to_more : (most more : ℕ) (es : List LogEntry) → most ≤ more → AllUpTo most es → AllUpTo more es
 unfolding AllUpTo
 up_to_more most more [] le within = tt
 up_to_more most more (e ∷ es) le within = (omega (arith, within.0), up_to_more most more es le within.1)

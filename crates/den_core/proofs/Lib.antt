@@ -1,6 +1,7 @@
+pub mod CatchUp
 pub mod Durables
-pub mod Spared
 pub mod Quiet
+pub mod Spared
 pub mod Steps
 pub mod Cutting
 pub mod Early

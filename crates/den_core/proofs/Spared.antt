@@ -1,5 +1,5 @@
 -- What a call on one store's files leaves of the others', and what the three stand for then.
-use Rattle.std.proofs.Common.{◌≡◌, ◌⊎◌, ◌↔◌, inl, inr, ⊎_elim, ℕ, ◌≤◌, ◌<◌, Option, Some, sym, ◌∙◌, ap, subst, arith}
+use Rattle.std.proofs.Common.{◌≡◌, ◌⊎◌, ◌↔◌, inl, inr, ⊎_elim, ℕ, ◌≤◌, ◌<◌, Option, Some, refl, sym, ◌∙◌, ap, subst, arith}
 use Rattle.std.proofs.lemmas.Bool.{cases_lt}
 use Rattle.den_disk.specs.declared.place.Family.{Family}
 use Rattle.den_disk.specs.declared.place.Family.TheVariants.{Log as log_family, Meta as meta_family, State as state_family}
@@ -120,3 +120,12 @@ moves_then holds old_at new_at from mid to x y past one two = record {
 -- nothing moved
 pub gives_old : {X : Type 0} (holds : Files → Option X) (images : ℕ → Files → Type 0) (from to : ℕ) (x y : X) → Gives holds images from to x → OldOrNew holds images from to x y
 gives_old holds images from to x y given = record { each = λ t files begun ended at. inl (given.each t files begun ended at) }
+
+pub spares_none : (own : Family) (images : ℕ → Files → Type 0) (now : ℕ) → SparesImages own images images now now
+spares_none own images now = record {
+  each = λ t files begun ended at. let same : t ≡ now = omega arith in (files, subst (λ n. images n files) same at, λ q other. refl);
+}
+
+-- a call that moves nothing
+pub same_gives : {X : Type 0} (holds : Files → Option X) (images : ℕ → Files → Type 0) (from to : ℕ) (x : X) → OldOrNew holds images from to x x → Gives holds images from to x
+same_gives holds images from to x moves = record { each = λ t files begun ended at. ⊎_elim (λ old. old) (λ new. new) (moves.each t files begun ended at) }

@@ -9,8 +9,8 @@ ghost use Rattle.den_core.specs.Asked.{outcome_of, HasRoom};
 ghost use Rattle.den_core.specs.Parts.{IsPlain};
 
 use den_codec::{
-    Blob, ClientResponse, ClientResponsePayload, Command, Error, ErrorCode, Frame, KvEntry, Refusal,
-    Reply, Request, Rows, Running, WriteOperation,
+    Blob, ClientResponse, ClientResponsePayload, Command, Error, ErrorCode, Frame, KvEntry,
+    Refusal, Reply, Request, Rows, Running, WriteOperation,
 };
 use den_disk::Disk;
 use den_state::StateMachine;
@@ -75,7 +75,7 @@ fn command_of(operation: WriteOperation) -> Command
 }
 
 /// Whether a command sets a time to live.
-fn has_ttl(command: &Command) -> bool
+pub(crate) fn has_ttl(command: &Command) -> bool
     ensures { result ≡ has_ttl command.now }
 {
     match command {

@@ -33,7 +33,13 @@ pub struct Engine<G, T, M> {
 
 impl<G, T, M> Engine<G, T, M> {
     /// Of stores that go together: the map has each entry of the log.
-    pub fn new<D: Disk>(alloc: Global, log: G, meta: T, state: M, running: Running) -> Engine<G, T, M>
+    pub fn new<D: Disk>(
+        alloc: Global,
+        log: G,
+        meta: T,
+        state: M,
+        running: Running,
+    ) -> Engine<G, T, M>
     where
         G: LogStore<D>,
         T: MetaStore<D>,
@@ -43,10 +49,10 @@ impl<G, T, M> Engine<G, T, M> {
         requires state_ready { M.ready state }
         requires caught_up { IsCaughtUp (G.log log) (M.map state) }
         requires plain { IsPlain running }
-        ensures kv { kv_of (T.hard_state result.meta) (M.map result.state) result.running ≡ kv_of (T.hard_state meta) (M.map state) running }
-        ensures ready { IsReady (G.ready result.log) (T.ready result.meta) (M.ready result.state) (G.log result.log) (M.map result.state) result.running }
+        ensures kv { ⟦<Engine<G, T, M> as Stepper<D>>⟧.kv result ≡ kv_of (T.hard_state meta) (M.map state) running }
+        ensures ready { ⟦<Engine<G, T, M> as Stepper<D>>⟧.ready result }
         ensures rests { (content : Content) → AllRest (G.rests log content) (T.rests meta content) (M.rests state content)
-            → AllRest (G.rests result.log content) (T.rests result.meta content) (M.rests result.state content) }
+            → ⟦<Engine<G, T, M> as Stepper<D>>⟧.rests result content }
     {
         Engine {
             log,
@@ -59,7 +65,7 @@ impl<G, T, M> Engine<G, T, M> {
 }
 
 /// The current term, 0 before any was saved.
-fn current_term<D: Disk, T: MetaStore<D>>(meta: &T) -> u64
+pub(crate) fn current_term<D: Disk, T: MetaStore<D>>(meta: &T) -> u64
     ensures { result ≡ term_of (T.hard_state meta.now) }
 {
     match meta.load_hard_state() {
@@ -185,8 +191,7 @@ fn answer<D: Disk, G: LogStore<D>, T: MetaStore<D>, M: StateMachine<D>>(
     }
 }
 
-impl<D: Disk, G: LogStore<D>, T: MetaStore<D>, M: StateMachine<D>> Stepper<D>
-    for Engine<G, T, M> {
+impl<D: Disk, G: LogStore<D>, T: MetaStore<D>, M: StateMachine<D>> Stepper<D> for Engine<G, T, M> {
     ghost use Rattle.den_core.specs.Joined.{joined_here};
 
     ghost kv = { λ e. kv_of (T.hard_state e.meta) (M.map e.state) e.running };

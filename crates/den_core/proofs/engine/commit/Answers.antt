@@ -116,7 +116,7 @@ returns-clause-moves g c = λ told.
     (apply.own then)))
 
 pub returns-clause-ready : goal.returns-clause-ready
-returns-clause-ready g c = 
+returns-clause-ready g c =
     let engine = c.args.engine.now in
     let l = g.G.LogStore.log engine.log in
     let s = g.M.StateMachine.map engine.state in

@@ -1,0 +1,42 @@
+-- What opening refuses, and why it ends early.
+use Rattle.std.specs.Prelude.{◌≡◌, ◌⊎◌, ◌+◌, ◌-◌, ◌^◌, ◌==◌, ◌&&◌, ◌||◌, not, nat_le, ℕ, Bool, List, Option, Some, None, if◌then◌else◌}
+use Rattle.den_codec.specs.declared.error.Error.{Error}
+use Rattle.den_codec.specs.declared.error.Error.TheVariants.{DataCorruption, FeatureNotEnabled, ProposeFailed, OutOfMemory}
+use Rattle.den_model.specs.declared.log_id.HardState.{HardState}
+use Rattle.den_model.specs.Image.{durable, run_from}
+use Rattle.den_model.specs.Entries.{LogEntry}
+use Rattle.den_model.specs.Kv.{Durable}
+use Rattle.den_model.specs.Log.{Log, above, floor}
+use Rattle.den_model.specs.MapState.{MapState}
+use Rattle.den_state.specs.Chunk.{asks_lease}
+use Rattle.den_store.specs.Causes.{IsRefusal}
+
+-- no term or no index is left
+abbrev pub is_exhausted : Durable → Bool
+is_exhausted d = (d.term == 2 ^ 64 - 1) || (d.last_index == 2 ^ 64 - 1)
+
+-- A log in this file and a map that disagree; then an entry to apply that has a time to live, where no lease is
+-- configured; then a term or an index that is exhausted.
+abbrev pub refusal_for : ℕ → Bool → Option Durable → Option Error
+refusal_for place lease None = Some (DataCorruption place 0)
+refusal_for place lease (Some d) = if lease then Some FeatureNotEnabled else if is_exhausted d then Some ProposeFailed else None
+
+-- what opening refuses of these three
+abbrev pub opening_refusal : ℕ → Log → Option HardState → MapState → Option Error
+opening_refusal place l h s = refusal_for place (asks_lease (above s.mark.index l.entries)) (durable l h s)
+
+-- whether the log's entries go on behind this index without a gap
+abbrev pub agrees : Log → ℕ → List LogEntry → Bool
+agrees l index entries = nat_le (floor l) index && run_from (index + 1) entries
+
+-- the same refusal, by tests
+abbrev pub refusal_by : ℕ → Bool → Bool → Bool → Option Error
+refusal_by place agree lease exhausted =
+    if not agree then Some (DataCorruption place 0)
+    else if lease then Some FeatureNotEnabled
+    else if exhausted then Some ProposeFailed
+    else None
+
+-- what opening answers: its refusal where there is one; else a refusal of the disk; or want of memory
+abbrev pub IsOpeningFailure : Type 0 → ℕ → Option Error → Error → Type 0
+IsOpeningFailure rose most refusal e = (refusal ≡ Some e) ⊎ (e ≡ OutOfMemory) ⊎ ((refusal ≡ None) × IsRefusal rose most e)

@@ -1,0 +1,187 @@
+//! The engine over stores as they were opened.
+ghost use Rattle.std.specs.Prelude.{◌≡◌, ◌==◌, ◌||◌, ◌^◌, ◌-◌, ◌+◌, ℕ, IsTrue, List, [], Option, Some, None, OnOk, IfOk, IfErr, IsSome, true, false};
+ghost use Rattle.den_codec.specs.declared.error.Error.TheVariants.{OutOfMemory};
+ghost use Rattle.den_disk.specs.declared.place.Family.TheVariants.{State as state_family};
+ghost use Rattle.den_disk.specs.Families.{OldOrNew, SparesImages, SparesOthers};
+ghost use Rattle.den_disk.specs.Files.{Files, Content};
+ghost use Rattle.den_disk.specs.Goes.{Rose, DiskGoesOn};
+ghost use Rattle.den_model.specs.Crash.{Survives};
+ghost use Rattle.den_model.specs.Image.{durable, joined, run_from, term_of};
+ghost use Rattle.den_model.specs.Kv.{Durable};
+ghost use Rattle.den_model.specs.Log.{above, floor, last_of};
+ghost use Rattle.den_model.specs.MapState.{map_applied_all};
+ghost use Rattle.den_state.specs.Chunk.{asks_lease, out_of_order};
+ghost use Rattle.den_store.specs.Causes.{IsRefusal};
+ghost use Rattle.den_core.specs.Opening.{agrees, opening_refusal, refusal_by, IsOpeningFailure};
+ghost use Rattle.den_core.specs.Parts.{kv_of, IsPlain, AllRest};
+
+use crate::ask::has_ttl;
+use crate::engine::current_term;
+use crate::{Engine, Stepper};
+use den_codec::{Entry, Error, Rows, Running};
+use den_disk::Disk;
+use den_state::StateMachine;
+use den_store::{LogStore, MetaStore};
+use std::alloc::Global;
+
+/// Whether the indices run on behind this one without a gap.
+fn run_behind(index: u64, entries: &[Entry]) -> bool
+    ensures { result ≡ run_from (index + 1) entries.now }
+{
+    let mut last = index;
+    for entry in entries {
+        if entry.index() - 1 != last {
+            return false;
+        }
+        last = entry.index();
+    }
+    true
+}
+
+/// Whether an entry sets a time to live.
+fn asks_lease(entries: &[Entry]) -> bool
+    ensures { result ≡ asks_lease entries.now }
+{
+    for entry in entries {
+        if has_ttl(entry.command()) {
+            return true;
+        }
+    }
+    false
+}
+
+/// The index of the last entry, or this one.
+fn last_of(index: u64, entries: &[Entry]) -> u64
+    ensures { result ≡ last_of index entries.now }
+{
+    match entries.last() {
+        Some(entry) => entry.index(),
+        None => index,
+    }
+}
+
+/// The index up to which entries were purged.
+fn floor<D: Disk, G: LogStore<D>>(log: &G) -> u64
+    ensures { result ≡ floor (G.log log.now) }
+{
+    match log.load_purge_boundary() {
+        Some(boundary) => boundary.index,
+        None => 0,
+    }
+}
+
+/// The entries behind an index.
+fn entries_above<D: Disk, G: LogStore<D>>(log: &G, index: u64) -> Result<Rows<Entry>, Error>
+    ensures entries { IfOk result (λ entries. entries ≡ above index (G.log log.now).entries) }
+    ensures refused { IfErr result (λ e. e ≡ OutOfMemory) }
+{
+    let last = log.last_index();
+    match index.checked_add(1) {
+        Some(first) => log.get_entries(first, last),
+        None => log.get_entries(1, 0),
+    }
+}
+
+/// Whether the log goes on behind the map's mark without a gap, with these entries.
+fn agrees<D: Disk, G: LogStore<D>>(log: &G, mark: u64, entries: &[Entry]) -> bool
+    ensures { result ≡ agrees (G.log log.now) mark entries.now }
+{
+    floor::<D, G>(log) <= mark && run_behind(mark, entries)
+}
+
+/// Whether no term or no index is left.
+fn is_exhausted(term: u64, last_index: u64) -> bool
+    ensures { result ≡ ((term == 2 ^ 64 - 1) || (last_index == 2 ^ 64 - 1)) }
+{
+    term == u64::MAX || last_index == u64::MAX
+}
+
+/// What opening refuses where these entries of the log are above the map's mark.
+fn refusal<D: Disk, G: LogStore<D>, T: MetaStore<D>>(
+    log: &G,
+    meta: &T,
+    mark: u64,
+    entries: &[Entry],
+) -> Option<Error>
+    ensures { result ≡ refusal_by (G.place log.now) (agrees (G.log log.now) mark entries.now) (asks_lease entries.now)
+        ((term_of (T.hard_state meta.now) == 2 ^ 64 - 1) || (last_of mark entries.now == 2 ^ 64 - 1)) }
+{
+    if !agrees::<D, G>(log, mark, entries) {
+        return Some(Error::DataCorruption {
+            place: log.place(),
+            offset: 0,
+        });
+    }
+    if asks_lease(entries) {
+        return Some(Error::FeatureNotEnabled);
+    }
+    if is_exhausted(current_term::<D, T>(meta), last_of(mark, entries)) {
+        return Some(Error::ProposeFailed);
+    }
+    None
+}
+
+/// Applies entries behind the map's mark, where there are some.
+fn apply_all<D: Disk, M: StateMachine<D>>(
+    state: &mut M,
+    disk: &mut D,
+    entries: &[Entry],
+) -> Result<(), Error>
+    requires ready { M.ready state.old }
+    requires rests { IsTrue (D.kind disk.old).tells → M.rests state.old (D.content disk.old) }
+    requires in_order { out_of_order (M.map state.old).mark.index entries.now ≡ None }
+    requires no_ttl { asks_lease entries.now ≡ false }
+    ensures disk { DiskGoesOn D.kind D.moment D.images D.faults disk.old disk.new }
+    ensures own { IsTrue (D.kind disk.old).tells → OldOrNew M.holds (D.images disk.new) (D.moment disk.old) (D.moment disk.new) (M.map state.old) (map_applied_all (M.map state.old) entries.now) }
+    ensures others { IsTrue (D.kind disk.old).tells → SparesImages state_family (D.images disk.old) (D.images disk.new) (D.moment disk.old) (D.moment disk.new) }
+    ensures spares { IsTrue (D.kind disk.old).tells → SparesOthers state_family (D.content disk.old) (D.content disk.new) }
+    ensures applied { OnOk result (M.map state.new ≡ map_applied_all (M.map state.old) entries.now) }
+    ensures ready { OnOk result (M.ready state.new) }
+    ensures rests { OnOk result (IsTrue (D.kind disk.old).tells → M.rests state.new (D.content disk.new)) }
+    ensures refused { IfErr result (λ e. IsRefusal (Rose (D.faults disk.old) (D.faults disk.new)) (D.kind disk.old).limit e) }
+{
+    if entries.is_empty() {
+        return Ok(());
+    }
+    state.apply_chunk(disk, entries)?;
+    Ok(())
+}
+
+/// Brings stores together as they were opened: the log's entries above the map's mark are applied, which moves nothing
+/// that the files stand for. Where log and map disagree, where an entry to apply has a time to live, and where no term
+/// or index is left, it refuses, with nothing written.
+pub fn recover<D: Disk, G: LogStore<D>, T: MetaStore<D>, M: StateMachine<D>>(
+    alloc: Global,
+    disk: &mut D,
+    log: G,
+    meta: T,
+    state: M,
+    running: Running,
+) -> Result<Engine<G, T, M>, Error>
+    requires log_ready { G.ready log }
+    requires meta_ready { T.ready meta }
+    requires state_ready { M.ready state }
+    requires rests { IsTrue (D.kind disk.old).tells → AllRest (G.rests log (D.content disk.old)) (T.rests meta (D.content disk.old)) (M.rests state (D.content disk.old)) }
+    requires plain { IsPlain running }
+    ensures disk { DiskGoesOn D.kind D.moment D.images D.faults disk.old disk.new }
+    ensures survives { (kept : Durable) → IsTrue (D.kind disk.old).tells → durable (G.log log) (T.hard_state meta) (M.map state) ≡ Some kept
+        → Survives (λ files. joined (G.holds files) (T.holds files) (M.holds files)) (D.images disk.new) (D.moment disk.old) (D.moment disk.new) []
+        (record { durable = kept; running = running }) [] }
+    ensures opened { IfOk result (λ engine. durable (G.log log) (T.hard_state meta) (M.map state) ≡ Some (⟦<Engine<G, T, M> as Stepper<D>>⟧.kv engine).durable) }
+    ensures running { IfOk result (λ engine. (⟦<Engine<G, T, M> as Stepper<D>>⟧.kv engine).running ≡ running) }
+    ensures ready { IfOk result (λ engine. ⟦<Engine<G, T, M> as Stepper<D>>⟧.ready engine) }
+    ensures rests { IfOk result (λ engine. IsTrue (D.kind disk.old).tells → ⟦<Engine<G, T, M> as Stepper<D>>⟧.rests engine (D.content disk.new)) }
+    ensures unrefused { OnOk result (opening_refusal (G.place log) (G.log log) (T.hard_state meta) (M.map state) ≡ None) }
+    ensures refused { IfErr result (λ e. IsOpeningFailure (Rose (D.faults disk.old) (D.faults disk.new)) (D.kind disk.old).limit
+        (opening_refusal (G.place log) (G.log log) (T.hard_state meta) (M.map state)) e) }
+    ensures untouched { IsSome (opening_refusal (G.place log) (G.log log) (T.hard_state meta) (M.map state)) → disk.new ≡ disk.old }
+{
+    let mut state = state;
+    let mark = state.last_applied().index;
+    let entries = entries_above::<D, G>(&log, mark)?;
+    if let Some(refused) = refusal::<D, G, T>(&log, &meta, mark, entries.as_slice()) {
+        return Err(refused);
+    }
+    apply_all(&mut state, disk, entries.as_slice())?;
+    Ok(Engine::new::<D>(alloc, log, meta, state, running))
+}
