@@ -7,9 +7,9 @@ ghost use Rattle.den_store.specs.Held.{log_of};
 
 use crate::LogStore;
 use crate::held_log::HeldLog;
-use crate::refused::refusal;
+use crate::family::{file_number, refusal};
 use den_codec::{Entry, Error, LogId, Rows};
-use den_disk::{Disk, Family, Place};
+use den_disk::{Disk, Family};
 use den_gate::GateFile;
 use std::alloc::Global;
 
@@ -64,11 +64,7 @@ impl<D: Disk> LogStore<D> for FileLogStore {
     }
 
     fn place(&self) -> u8 {
-        let place = Place {
-            family: Family::Log,
-            part: self.gate.part(),
-        };
-        place.number() as u8
+        file_number(Family::Log, self.gate.part())
     }
 
     fn last_index(&self) -> u64 {

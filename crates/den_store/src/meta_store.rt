@@ -4,7 +4,7 @@ ghost use Rattle.den_model.specs.Spelling.{hard_state_word};
 ghost use Rattle.den_store.specs.FileMeta.{state_held, MetaRests, meta_rests_own, meta_holds_own, meta_rests_hold};
 
 use crate::MetaStore;
-use crate::refused::refusal;
+use crate::family::refusal;
 use den_codec::{Error, HardState, Word};
 use den_disk::{Disk, Family};
 use den_gate::GateFile;
