@@ -6,3 +6,4 @@ pub mod Memory
 pub mod Pieces
 pub mod Place
 pub mod Readings
+pub mod Spoil

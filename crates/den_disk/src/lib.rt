@@ -14,6 +14,7 @@ mod memory;
 mod place;
 mod sink;
 mod source;
+mod spoil;
 
 pub use clock::Clock;
 pub use disk::{Disk, DiskFault};

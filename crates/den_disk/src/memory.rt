@@ -2,11 +2,13 @@
 // an earlier moment may have left is known from its fields. Each call makes two moments.
 ghost use Rattle.std.specs.Prelude.{◌≡◌, ◌≤◌, ◌<◌, ◌+◌, ◌-◌, ◌*◌, ◌^◌, ◌++◌, [], ◌∷◌, min, true, take, drop, length, replicate, IsTrue, OnOk, OnErr, IsErr, Contains};
 ghost use Rattle.den_disk.specs.declared.place.Place.{Place};
-ghost use Rattle.den_disk.specs.Files.{put_at, fit};
+ghost use Rattle.den_disk.specs.Files.{IsImage, put_at, fit};
 ghost use Rattle.den_disk.specs.Memory.{content_now, images_at, images_end, calls_made, syncs_of};
 ghost use Rattle.den_disk.specs.Crash.{Stays};
 ghost use Rattle.den_disk.specs.Goes.{HasCause, Rose};
 
+use crate::faults::count_fault;
+use crate::spoil::spoil;
 use crate::{Disk, DiskFault, Place};
 use std::alloc::{AllocError, Global};
 
@@ -127,6 +129,24 @@ impl MemDisk {
         self.plan.failing = calls;
     }
 
+    /// Makes the disk what a crash leaves of it, with no more faults to come. Choice 0 takes back each write since the last sync, 1
+    /// keeps all, and any other puts numbers drawn from it into what they wrote. The record is then empty.
+    pub fn crash(&mut self, choice: u64)
+        ensures image { IsImage (⟦<MemDisk as Disk>⟧.content self.old) (⟦<MemDisk as Disk>⟧.content self.new).reading }
+        ensures kept { choice ≡ 1 → (q : Place) → (⟦<MemDisk as Disk>⟧.content self.new).reading q ≡ (⟦<MemDisk as Disk>⟧.content self.old).reading q }
+        ensures pending { (⟦<MemDisk as Disk>⟧.content self.new).pending ≡ [] }
+        ensures moment { ⟦<MemDisk as Disk>⟧.moment self.new ≡ 0 }
+        ensures faults { ⟦<MemDisk as Disk>⟧.faults self.new ≡ ⟦<MemDisk as Disk>⟧.faults self.old }
+        ensures calls { calls_made self.new ≡ calls_made self.old }
+    {
+        if choice != 1 {
+            spoil(&mut self.files, self.steps.as_slice(), choice);
+        }
+        self.steps = Vec::new(self.alloc);
+        self.plan.failing.clear();
+        self.plan.fuse = None;
+    }
+
     /// How many calls were made that read or changed the files, those that failed too.
     pub fn calls(&self) -> u64
         ensures { result ≡ calls_made self.now }
@@ -134,7 +154,7 @@ impl MemDisk {
         self.plan.calls
     }
 
-    /// How many syncs succeeded since the disk was new, or a file was put.
+    /// How many syncs succeeded since the disk was new, a file was put, or a crash.
     pub fn syncs(&self) -> u64
         ensures { result ≡ syncs_of self.now.steps.items }
     {
@@ -174,7 +194,7 @@ fn count(faults: &mut u64) -> DiskFault
     ensures later { faults.old ≤ faults.new }
     ensures rose { Rose faults.old faults.new }
 {
-    *faults = faults.saturating_add(1);
+    count_fault(faults);
     DiskFault
 }
 
@@ -392,6 +412,38 @@ mod tests {
             assert_eq!(rt; disk.get(META), want);
         }
         assert_eq!(rt; disk.limit(), 1 << 43);
+        Ok(())
+    }
+
+    #[test]
+    fn crashes(rt: HostRuntime) -> Result<(), Fail> {
+        let cases = [
+            (0, b"ab\0\0".as_slice()),
+            (1, b"aX\0\0".as_slice()),
+            (2, b"a\xc4\0\0".as_slice()),
+        ];
+        for (choice, want) in cases {
+            let mut disk = MemDisk::new(rt.alloc());
+            disk.set(LOG, b"abcdef")?;
+            disk.write_at(LOG, 1, b"XY")?;
+            disk.resize(LOG, 2)?;
+            disk.resize(LOG, 4)?;
+            disk.fuse(0);
+            disk.crash(choice);
+            assert_eq!(rt; disk.get(LOG), want, "at choice {choice}");
+            assert_eq!(rt; disk.sync(), Ok(()));
+        }
+        Ok(())
+    }
+
+    #[test]
+    fn keeps_what_was_synced(rt: HostRuntime) -> Result<(), Fail> {
+        let mut disk = MemDisk::new(rt.alloc());
+        disk.set(META, b"ab")?;
+        disk.write_at(META, 1, b"c")?;
+        disk.sync()?;
+        disk.crash(0);
+        assert_eq!(rt; disk.get(META), b"ac".as_slice());
         Ok(())
     }
 
