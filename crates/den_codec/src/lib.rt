@@ -3,9 +3,13 @@
 
 mod error;
 mod fields;
+mod frames;
 mod log_words;
 mod reads;
 mod region_words;
+mod reply_words;
+mod request_words;
+mod state_words;
 mod word;
 
 pub use den_model::{
@@ -17,6 +21,9 @@ pub use den_model::{
     WriteOperation,
 };
 pub use error::{ConfigPlace, Error};
+pub use frames::write_frame;
 pub use reads::ReadError;
 pub use region_words::write_append;
+pub use request_words::read_request;
+pub use state_words::write_records;
 pub use word::Word;

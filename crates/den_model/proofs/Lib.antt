@@ -4,8 +4,11 @@ pub mod Spells
 pub mod LogSpells
 pub mod Tagged
 pub mod RegionSpells
+pub mod StateSpells
+pub mod ReplySpells
 pub mod RoundTrips
 pub mod RequestSpells
+pub mod RequestWords
 pub mod Runs
 pub mod Order
 pub mod Rising

@@ -44,7 +44,7 @@ unfoldable pub u64_word : ℕ → List ℕ
 u64_word n = to_be_bytes w64 n
 
 -- two's complement
-abbrev pub i32_word : ℤ → List ℕ
+unfoldable pub i32_word : ℤ → List ℕ
 i32_word z = u32_word (cast_unsigned w32 z)
 
 -- the length, and so many bytes
