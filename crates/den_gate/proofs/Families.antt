@@ -1,15 +1,15 @@
 -- From what the calls on one slot leave to what they leave of its family and of the others.
-use Rattle.std.proofs.Common.{refl, ◌≡◌, ◌⊎◌, inl, inr, ⊎_elim, ℕ, ◌≤◌, Option, Some, Result, Ok, List, [], ◌∷◌, ◌++◌, sym, ◌∙◌, ap, subst}
+use Rattle.std.proofs.Common.{refl, ◌≡◌, inl, inr, ⊎_elim, ℕ, Option, Some, Result, Ok, List, [], ◌∷◌, ◌++◌, sym, ◌∙◌, ap, subst}
 use Rattle.den_disk.specs.declared.place.Family.{Family}
 use Rattle.den_disk.specs.declared.place.Place.{Place}
 use Rattle.den_disk.specs.Files.{Files, Content, IsImage}
 use Rattle.den_disk.specs.Crash.{Leaves}
-use Rattle.den_disk.specs.Families.{SparesOthers, SparesOwn, SparesImages, OldOrNew}
+use Rattle.den_disk.specs.Families.{SparesAll, SparesOthers, SparesOwn, SparesImages, OldOrNew}
 use Rattle.den_model.specs.Regions.{Region, regions, placed}
 use Rattle.den_model.specs.Image.{named, head_of, slot_of, meaning_of, in_regions}
 use Rattle.den_gate.specs.declared.gate.GateFile.{GateFile}
 use Rattle.den_gate.specs.Slot.{payloads_of, Holds}
-use Rattle.den_gate.specs.Steps.{IsFrom, Spares, IsOpen, Keeps, KeepsOrAdds}
+use Rattle.den_gate.specs.Steps.{IsFrom, Spares, Keeps, KeepsOrAdds}
 use Rattle.den_gate.specs.Gate.{payloads, IsAtRest, IsCurrent, HasList, KeepsFamily, KeepsOrAddsFamily}
 use Rattle.den_gate.proofs.Written.{holds_regions}
 use Rattle.den_gate.proofs.Beside.{named_slot, whole, current_head}
@@ -90,6 +90,17 @@ current_spared slot old new s current = record {
 
 pub payloads_spared : (gate : GateFile) (old new : Content) → SparesOwn gate.slot.family old new → payloads gate new.reading ≡ payloads gate old.reading
 payloads_spared gate old new s = ap payloads_of (s.reading gate.slot refl)
+
+-- calls that spare all files spare each family
+pub all_own : (own : Family) (old new : Content) → SparesAll old new → SparesOwn own old new
+all_own own old new s = record { reading = λ q is. s.reading q; pending = λ q is k h. s.pending q k h }
+
+-- and so do calls on another family
+pub others_own : (own other : Family) (old new : Content) → (own ≡ other → ⊥) → SparesOthers other old new → SparesOwn own old new
+others_own own other old new apart s = record {
+  reading = λ q is. s.reading q (λ e. apart (sym is ∙ e));
+  pending = λ q is k h. s.pending q (λ e. apart (sym is ∙ e)) k h;
+}
 
 -- what is read of a slot at rest
 pub rest_regions : (gate : GateFile) (c : Content) → IsAtRest gate c → regions (c.reading gate.slot) ≡ Ok (placed 0 (payloads gate c.reading))

@@ -1,7 +1,7 @@
 -- A call on one file leaves the others as a crash before it might have left them.
-use Rattle.std.proofs.Common.{◌≡◌, ⊎_elim, ◌↔◌, ℕ, Result, List, length, sym, subst, arith}
+use Rattle.std.proofs.Common.{⊎_elim, ◌↔◌, ℕ, Result, List, length, sym, subst, arith}
 use Rattle.den_disk.specs.declared.place.Place.{Place}
-use Rattle.den_disk.specs.Files.{Files, Content, IsImage, written, torn, resized, synced}
+use Rattle.den_disk.specs.Files.{Files, Content, IsImage, torn, resized}
 use Rattle.den_disk.specs.Crash.{Stays, Changes, Leaves, IsWritten, IsHalfWritten, IsResized, IsSynced, IsEither}
 use Rattle.den_disk.proofs.Moments.{call, call_stays, and_then, weaker}
 use Rattle.den_gate.specs.Steps.{IsFrom, Spares}

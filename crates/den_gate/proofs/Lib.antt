@@ -6,3 +6,4 @@ pub mod Frame
 pub mod Families
 pub mod Settling
 pub mod Refusals
+pub mod Seen

@@ -1,9 +1,9 @@
 -- From what one device call does to what a crash leaves in it.
 use Rattle.std.proofs.Common.{◌≡◌, inl, ⊎_elim, ◌↔◌, ℕ, ◌+◌, ◌<◌, ◌≤◌, Result, List, [], ◌∷◌, length, refl, sym, ◌∙◌, subst, arith}
 use Rattle.den_disk.specs.declared.place.Place.{Place}
-use Rattle.den_disk.specs.Files.{Files, Content, IsImage, torn, resized, synced}
+use Rattle.den_disk.specs.Files.{Files, Content, IsImage, torn, resized}
 use Rattle.den_disk.specs.Crash.{Stays, Changes, Leaves, IsWritten, IsHalfWritten, IsResized, IsSynced, IsEither}
-use Rattle.den_disk.proofs.Moments.{call, call_stays, becomes, changes, started, and_then, weaker}
+use Rattle.den_disk.proofs.Moments.{call, call_stays, started, and_then, weaker}
 use Rattle.den_gate.specs.Steps.{Spares, IsFrom, Keeps, KeepsOrAdds, IsOpen, IsStaged, IsCalm, IsPoised, RunKeeps, RunKeepsOrAdds}
 use Rattle.den_gate.proofs.Calm.{calm_start, poised_start, calm_image, calm_torn, calm_written, calm_resized, calm_synced, poised_image, poised_torn, poised_written, poised_synced}
 

@@ -1,8 +1,8 @@
 -- What a sync and reads after it leave.
-use Rattle.std.proofs.Common.{◌≡◌, ◌↔◌, ℕ, ◌+◌, ◌≤◌, Result, IsTrue, refl, sym, subst, arith}
+use Rattle.std.proofs.Common.{◌≡◌, ◌↔◌, ℕ, ◌+◌, ◌≤◌, Result, IsTrue, refl, sym, subst}
 use Rattle.den_disk.specs.Files.{Files, Kind, Content, IsImage, synced}
 use Rattle.den_disk.specs.Crash.{Stays, Changes, Leaves, IsSynced}
-use Rattle.den_disk.specs.Goes.{ImagesGoOn, DiskGoesOn}
+use Rattle.den_disk.specs.Goes.{DiskGoesOn}
 use Rattle.den_disk.specs.Families.{SparesAll, NoNewImages}
 use Rattle.den_disk.proofs.Moments.{becomes, changes, stays_more}
 

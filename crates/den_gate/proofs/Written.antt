@@ -1,5 +1,5 @@
 -- What the bytes of a slot are read as, from what is known of them at one offset.
-use Rattle.std.proofs.Common.{◌≡◌, ◌≢◌, ◌⊎◌, inl, inr, ⊎_elim, ℕ, suc, ◌+◌, ◌-◌, ◌<◌, ◌≤◌, ◌^◌, Result, Ok, Err, List, [], ◌∷◌, ◌++◌, length, get_or, take, drop, refl, sym, ◌∙◌, ap, subst, arith, append_assoc, length-append, length-take, length-drop, take-append-drop, zero-add}
+use Rattle.std.proofs.Common.{◌≡◌, ◌≢◌, ◌⊎◌, inl, inr, ⊎_elim, ℕ, suc, ◌+◌, ◌-◌, ◌<◌, ◌≤◌, ◌^◌, Ok, Err, List, [], ◌∷◌, ◌++◌, length, get_or, take, drop, refl, sym, ◌∙◌, ap, subst, arith, append_assoc, length-append, length-take, length-drop, take-append-drop, zero-add}
 use Rattle.std.specs.List.{AllByRecursion}
 use Rattle.std.specs.Int.{w64, to_be_bytes}
 use Rattle.std.proofs.Math.Seq.{take-add}
@@ -150,6 +150,11 @@ begins_more ps at next payload file b r =
       front = ap (λ (k : ℕ). take k file) along ∙ take-add at (9 + n) file ∙ (λ i. b.front i ++ r.region i) ∙ sym (regions-push ps payload);
       size = omega (arith, ap length (regions-push ps payload), length-append (open_regions ps) (open_region payload), length-append (u64_word n) payload, length-word n, b.size, r.next_is);
     }
+
+-- the same, where the payload joined the list
+pub begins_pushed : (ps qs : List (List ℕ)) (at next : ℕ) (taken payload file : List ℕ) → Begins ps at file → IsRegion at next payload file → taken ≡ payload → qs ≡ ps ++ taken ∷ [] → Begins qs next file
+begins_pushed ps qs at next taken payload file b r is pushed =
+    subst (λ (l : List (List ℕ)). Begins l next file) (sym (pushed ∙ ap (λ (p : List ℕ). ps ++ p ∷ []) is)) (begins_more ps at next payload file b r)
 
 -- the field behind an open gate, and the payload that it tells
 pub region_at : (at : ℕ) (file field : List ℕ) (n : ℕ) → at + 9 + n ≤ length file → get_or file at 0 ≡ 1 → field ≡ take 8 (drop (at + 1) file) → u64_word n ≡ field → IsRegion at (at + 9 + n) (payload_at at (at + 9 + n) file) file

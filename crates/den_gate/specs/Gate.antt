@@ -1,12 +1,12 @@
 -- What a gate file stands for, now and after a crash.
 use Rattle.std.specs.Prelude.{◌≡◌, ◌⊎◌, ◌≤◌, ℕ, Ok, List, [], ◌∷◌, ◌++◌}
 use Rattle.den_disk.specs.declared.place.Place.{Place}
-use Rattle.den_disk.specs.Files.{Files, Content, IsPending}
+use Rattle.den_disk.specs.Files.{Files, Content}
 use Rattle.den_model.specs.Regions.{regions, placed}
 use Rattle.den_model.specs.Image.{named, head_of, slot_of}
 use Rattle.den_gate.specs.declared.gate.GateFile.{GateFile}
 use Rattle.den_gate.specs.Slot.{payloads_of}
-use Rattle.den_gate.specs.Steps.{IsSettled, IsOpen, IsFrom}
+use Rattle.den_gate.specs.Steps.{IsSettled, IsOpen}
 
 -- the payloads of a gate file
 abbrev pub payloads : GateFile → Files → List (List ℕ)

@@ -3,3 +3,4 @@ pub mod Gate
 pub mod Loading
 pub mod Slot
 pub mod Steps
+pub mod Window

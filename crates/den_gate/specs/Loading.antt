@@ -1,5 +1,5 @@
 -- What a load makes durable, and what a look at an offset of a slot finds.
-use Rattle.std.specs.Prelude.{◌≡◌, ◌≢◌, ◌⊎◌, ◌≤◌, ◌<◌, ℕ, ◌+◌, ◌-◌, List, [], take, drop, slice_index, Result, Ok, Err}
+use Rattle.std.specs.Prelude.{◌≡◌, ◌≢◌, ◌⊎◌, ◌≤◌, ℕ, ◌+◌, ◌-◌, List, [], take, drop, slice_index, Result, Ok, Err}
 use Rattle.den_disk.specs.Files.{Content}
 use Rattle.den_gate.specs.declared.error.GateError.{GateError}
 use Rattle.den_gate.specs.declared.error.GateError.TheVariants.{OutOfMemory, StorageIoError, Full, DataCorruption}

@@ -1,5 +1,5 @@
 -- What the bytes of a slot stand for, by the payloads of its regions.
-use Rattle.std.specs.Prelude.{◌≡◌, ◌≢◌, ◌<◌, ◌⊎◌, ◌^◌, ℕ, ◌+◌, ◌*◌, ◌/◌, ◌-◌, min, map, Result, Ok, Err, List, [], ◌∷◌, ◌++◌, length, take, drop, slice_index}
+use Rattle.std.specs.Prelude.{◌≡◌, ◌≢◌, ◌<◌, ◌⊎◌, ◌^◌, ℕ, ◌+◌, ◌*◌, ◌/◌, ◌-◌, min, Result, Ok, Err, List, [], ◌∷◌, ◌++◌, length, take, drop, slice_index}
 use Rattle.den_model.specs.Spelling.{u64_word}
 use Rattle.den_model.specs.Reading.{size_at}
 use Rattle.den_model.specs.Regions.{Region, regions, open_region, open_regions}

@@ -9,6 +9,7 @@ ghost use Rattle.den_gate.specs.Slot.{payloads_of, Holds};
 
 use crate::GateError;
 use crate::look::{Found, look};
+use crate::window::Window;
 use den_disk::{Disk, DiskFault, Family, Part, Place};
 
 // The slot that the family's head names.
@@ -45,9 +46,10 @@ pub fn find_end<D: Disk>(disk: &mut D, slot: Place) -> Result<u64, GateError>
     let limit = disk.limit();
     let len = disk.len(slot)?;
     prove!(len <= limit);
+    let mut window = Window::new();
     let mut at = 0;
     while at < len {
-        match look(disk, slot, at, len)? {
+        match look(disk, slot, at, len, &mut window)? {
             Found::Closed => return Ok(at),
             Found::Region { next } => at = next,
             Found::CutShort => {

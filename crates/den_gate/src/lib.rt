@@ -9,6 +9,7 @@ mod gate;
 mod look;
 mod room;
 mod take;
+mod window;
 
 pub use error::GateError;
 pub use gate::GateFile;
@@ -44,10 +45,28 @@ mod tests {
         assert_eq!(rt; again.part(), Part::A);
         let list = again.regions(rt.alloc(), &mut disk)?;
         assert_eq!(rt; list.as_slice().len(), 1);
-        assert_eq!(rt; list.as_slice().first(), Some(&Blob::of(rt.alloc(), b"abc")?));
+        assert_eq!(rt;
+            list.as_slice().first(),
+            Some(&Blob::of(rt.alloc(), b"abc")?)
+        );
         let mut bytes = [0; 13];
         assert_eq!(rt; read_front(&mut disk, &mut bytes)?, 65_536);
         assert_eq!(rt; bytes.as_slice(), b"\x01\0\0\0\0\0\0\0\x03abc\0".as_slice());
+        Ok(())
+    }
+
+    #[test]
+    fn reads_many_regions_in_one_call(rt: HostRuntime) -> Result<(), Fail> {
+        let mut disk = MemDisk::new(rt.alloc());
+        let mut gate = GateFile::load(Family::Log, &mut disk)?;
+        gate.append(&mut disk, b"abc")?;
+        gate.append(&mut disk, b"d")?;
+        gate.append(&mut disk, b"")?;
+        disk.fuse(4);
+        let again = GateFile::load(Family::Log, &mut disk)?;
+        disk.fuse(2);
+        let list = again.regions(rt.alloc(), &mut disk)?;
+        assert_eq!(rt; list.as_slice().len(), 3);
         Ok(())
     }
 

@@ -1,4 +1,4 @@
-use Rattle.std.proofs.Common.{◌+◌, ◌≤◌, IsTrue, length, sym, subst, arith}
+use Rattle.std.proofs.Common.{IsTrue, sym, subst, arith}
 use Rattle.den_gate.specs.Slot.{payloads_of}
 use Rattle.den_gate.proofs.Written.{staged_long}
 use Rattle.den_gate.proofs.Runs.{keeps_then, adds_then, keeps_or_adds}

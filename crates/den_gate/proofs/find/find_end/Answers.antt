@@ -1,7 +1,8 @@
-use Rattle.std.proofs.Common.{◌≡◌, ◌≢◌, ◌+◌, ◌∷◌, [], ◌++◌, refl, arith, ℕ, List, IsTrue, length, get_or, sym, ◌∙◌, ap, subst}
+use Rattle.std.proofs.Common.{◌≡◌, ◌≢◌, ◌∷◌, [], ◌++◌, refl, arith, ℕ, List, IsTrue, length, get_or, sym, ◌∙◌, ap, subst}
 use Rattle.std.proofs.lemmas.List.{get_or_past}
 use Rattle.den_disk.proofs.Moments.{stays_then}
 use Rattle.den_gate.specs.Slot.{IsRegion, IsCutShort}
+use Rattle.den_gate.specs.Window.{Shows}
 use Rattle.den_gate.specs.Loading.{Finds, GoesOn, payload_at}
 use Rattle.den_gate.proofs.Written.{begins_closed, begins_more, begins_short}
 use Rattle.den_gate.proofs.find.find_end.Goals as goal
@@ -42,6 +43,11 @@ loop-at-preserved g c =
       later = omega (arith, c.loop-at.invariant.later, c.look.ensures.cause.later);
       stays = λ tells. let tells1 = subst (λ k. IsTrue k.tells) (sym c.loop-at.invariant.kind) tells in
           stays_then g.D.Disk.content g.D.Disk.moment g.D.Disk.images c.args.disk.now c.loop-at.disk c.look.new.disk (c.loop-at.invariant.stays tells) (c.look.ensures.stays tells1);
+      fits = c.look.ensures.fits;
+      shows = λ tells.
+          let tells1 = subst (λ k. IsTrue k.tells) (sym c.loop-at.invariant.kind) tells in
+          let same : (g.D.Disk.content c.loop-at.disk).reading c.args.slot ≡ (g.D.Disk.content c.args.disk.now).reading c.args.slot = ap (λ k. k.reading c.args.slot) (c.loop-at.invariant.stays tells).content_same in
+          subst (λ (l : List ℕ). Shows c.look.new.window l) same (c.in_ok-look.ensures.shows tells1);
       begins = λ tells.
           let file = (g.D.Disk.content c.args.disk.now).reading c.args.slot in
           let at = c.loop-at.at in

@@ -1,4 +1,4 @@
-use Rattle.std.proofs.Common.{◌+◌, ◌≤◌, IsTrue, sym, subst, arith}
+use Rattle.std.proofs.Common.{◌≤◌, IsTrue, sym, subst, arith}
 use Rattle.den_disk.specs.Files.{Files, Content}
 use Rattle.den_gate.specs.Steps.{IsOpen}
 use Rattle.den_gate.proofs.Calm.{open_resized}

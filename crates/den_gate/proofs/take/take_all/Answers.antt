@@ -1,9 +1,10 @@
-use Rattle.std.proofs.Common.{◌≡◌, ◌≢◌, ◌+◌, ◌∷◌, [], ◌++◌, refl, arith, ℕ, List, IsTrue, length, get_or, sym, ◌∙◌, ap, subst}
+use Rattle.std.proofs.Common.{◌≡◌, ◌≢◌, arith, ℕ, List, IsTrue, length, get_or, sym, ◌∙◌, ap, subst}
 use Rattle.std.proofs.lemmas.List.{get_or_past}
 use Rattle.den_disk.proofs.Moments.{stays_then}
-use Rattle.den_gate.specs.Slot.{Begins, IsRegion, IsCutShort}
+use Rattle.den_gate.specs.Slot.{IsRegion, IsCutShort}
+use Rattle.den_gate.specs.Window.{Shows}
 use Rattle.den_gate.specs.Loading.{Finds, GoesOn, payload_at}
-use Rattle.den_gate.proofs.Written.{begins_holds, holds_payloads, begins_more, begins_short}
+use Rattle.den_gate.proofs.Written.{begins_holds, holds_payloads, begins_pushed, begins_short}
 use Rattle.den_gate.proofs.take.take_all.Goals as goal
 
 pub returns-in-Closed-clause-payloads : goal.returns-in-Closed-clause-payloads
@@ -50,6 +51,11 @@ loop-at-preserved g c =
           let tells2 = subst (λ k. IsTrue k.tells) (sym c.look.ensures.kind) tells1 in
           let seen = stays_then content moment images c.args.disk.now c.loop-at.disk c.look.new.disk (c.loop-at.invariant.stays tells) (c.look.ensures.stays tells1) in
           stays_then content moment images c.args.disk.now c.look.new.disk c.take_payload.new.disk seen (c.take_payload.ensures.stays tells2);
+      fits = c.look.ensures.fits;
+      shows = λ tells.
+          let tells1 = subst (λ k. IsTrue k.tells) (sym c.loop-at.invariant.kind) tells in
+          let same : (g.D.Disk.content c.loop-at.disk).reading c.args.slot ≡ (g.D.Disk.content c.args.disk.now).reading c.args.slot = ap (λ k. k.reading c.args.slot) (c.loop-at.invariant.stays tells).content_same in
+          subst (λ (l : List ℕ). Shows c.look.new.window l) same (c.in_ok-look.ensures.shows tells1);
       begins = λ tells.
           let file = (g.D.Disk.content c.args.disk.now).reading c.args.slot in
           let at = c.loop-at.at in
@@ -60,6 +66,7 @@ loop-at-preserved g c =
           let same2 : (g.D.Disk.content c.look.new.disk).reading c.args.slot ≡ file = ap (λ k. k.reading c.args.slot) (c.look.ensures.stays tells1).content_same ∙ same in
           let found = subst (λ f. Finds at ((g.D.Disk.content c.loop-at.disk).reading c.args.slot) f) c.in-Region.is (c.in_ok-look.ensures.found tells1) in
           let taken = c.in_ok-take_payload-in-Region.ensures.payload tells2 ∙ ap (payload_at at next) same2 in
-          let items : c.push.new.self.items ≡ c.loop-at.list.items ++ payload_at at next file ∷ [] = c.in_ok-push-in-Region.ensures.items ∙ ap (λ (p : List ℕ). c.loop-at.list.items ++ p ∷ []) taken in
-          subst (λ ps. Begins ps next file) (sym items) (begins_more c.loop-at.list.items at next (payload_at at next file) file (c.loop-at.invariant.begins tells) (subst (λ (l : List ℕ). IsRegion at next (payload_at at next l) l) same found));
+          let region = subst (λ (l : List ℕ). IsRegion at next (payload_at at next l) l) same found in
+          begins_pushed c.loop-at.list.items c.push.new.self.items at next c.in_ok-take_payload-in-Region.field-0 (payload_at at next file) file (c.loop-at.invariant.begins tells) region taken
+          c.in_ok-push-in-Region.ensures.items;
     }

@@ -1,6 +1,7 @@
-use Rattle.std.proofs.Common.{◌≡◌, ◌≤◌, ◌-◌, ℕ, List, IsTrue}
+use Rattle.std.proofs.Common.{◌≡◌, ◌≤◌, ◌-◌, IsTrue}
 use Rattle.den_disk.specs.Crash.{Stays}
 use Rattle.den_gate.specs.Slot.{Begins}
+use Rattle.den_gate.specs.Window.{Shows}
 use Rattle.den_gate.proofs.take.take_all.Given as goal
 
 abbrev pub invariant-loop-at : goal.invariant-loop-at
@@ -9,6 +10,8 @@ invariant-loop-at g l = record {
   kind : g.D.Disk.kind l.disk ≡ g.D.Disk.kind l.fn.disk;
   later : g.D.Disk.faults l.fn.disk ≤ g.D.Disk.faults l.disk;
   stays : IsTrue (g.D.Disk.kind l.fn.disk).tells → Stays g.D.Disk.content g.D.Disk.moment g.D.Disk.images l.fn.disk l.disk;
+  fits : l.window.filled ≤ 65536;
+  shows : IsTrue (g.D.Disk.kind l.fn.disk).tells → Shows l.window ((g.D.Disk.content l.fn.disk).reading l.slot);
   begins : IsTrue (g.D.Disk.kind l.fn.disk).tells → Begins l.list.items l.at ((g.D.Disk.content l.fn.disk).reading l.slot);
 }
 

@@ -1,5 +1,4 @@
 use Rattle.std.proofs.Common.{◌+◌, [], ◌∷◌, ◌++◌, length}
-use Rattle.den_disk.specs.Files.{Files}
 use Rattle.den_gate.specs.Slot.{payloads_of}
 use Rattle.den_gate.specs.Steps.{KeepsOrAdds}
 use Rattle.den_gate.proofs.Written.{at_rest}

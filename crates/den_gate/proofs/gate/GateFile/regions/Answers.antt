@@ -1,4 +1,4 @@
-use Rattle.std.proofs.Common.{◌≡◌, ℕ, Err, IsTrue, sym, ◌∙◌}
+use Rattle.std.proofs.Common.{◌≡◌, ℕ, Err, IsTrue}
 use Rattle.std.proofs.lemmas.Result.{IfErr-weaker}
 use Rattle.den_disk.specs.declared.place.Part.{Part}
 use Rattle.den_disk.specs.Goes.{Rose}
@@ -17,5 +17,5 @@ returns-clause-refused g c =
     let found = λ (part : Part) (offset : ℕ). (told → regions ((g.D.Disk.content d0).reading c.args.self.now.slot) ≡ Err offset) in
     let never = λ (part : Part) (offset : ℕ). (told → ⊥) in
     let better : (part : Part) (offset : ℕ) → found part offset → never part offset = λ part offset h tells.
-        absurd (cc (h tells, rest_regions c.args.self.now (g.D.Disk.content d0) (c.requires.at_rest tells))) in
+    absurd (cc (h tells, rest_regions c.args.self.now (g.D.Disk.content d0) (c.requires.at_rest tells))) in
     IfErr-weaker c.take_all.result (Because (Unit {0}) rose none found) (Because (Unit {0}) rose none never) (because_weaker (Unit {0}) rose none found never better) c.take_all.ensures.refused

@@ -1,4 +1,3 @@
-use Rattle.den_disk.specs.Files.{Files}
 use Rattle.den_gate.specs.Slot.{payloads_of}
 use Rattle.den_gate.specs.Steps.{Keeps}
 use Rattle.std.proofs.lemmas.Result.{on_ok_weaker}
