@@ -1,5 +1,5 @@
 -- The words of the log's regions: what is written is read again, and what is read was written so.
-use Rattle.std.proofs.Common.{◌≡◌, ℕ, suc, ◌<◌, ◌≤◌, ◌^◌, true, List, [], ◌∷◌, ◌++◌, length, Option, Some, refl, sym, append_assoc}
+use Rattle.std.proofs.Common.{◌≡◌, ℕ, suc, List, [], ◌∷◌, ◌++◌, length, Some, refl, sym}
 use Rattle.std.specs.Prelude.{◌&&◌, nat_le}
 use Rattle.std.proofs.lemmas.Bool.{le-leb, leb-true, and_from, and_parts}
 use Rattle.std.proofs.lemmas.List.{append-nil}
@@ -7,7 +7,7 @@ use Rattle.den_model.specs.declared.region.LogRegion.{LogRegion}
 use Rattle.den_model.specs.declared.region.LogRegion.TheVariants as log
 use Rattle.den_model.specs.Entries.{LogEntry, EntriesFrom, rise_from}
 use Rattle.den_model.specs.Spelling.{u64_word, list_word, entry_word, log_region_word}
-use Rattle.den_model.specs.Words.{IsBytes, FitsU64, FitsEntry, FitsList, FitsLogRegion}
+use Rattle.den_model.specs.Words.{IsBytes, FitsU64, FitsLogRegion}
 use Rattle.den_model.specs.Reading.{append_at, truncate_at, purge_at, replace_at, log_region_at}
 use Rattle.den_model.proofs.Spells.{Spells, itself, no_none, spells_done, spells_done_if, spells_then, spells_as, spells_u64, spells_list}
 use Rattle.den_model.proofs.LogSpells.{Known, spells_entry}

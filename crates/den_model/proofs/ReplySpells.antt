@@ -1,5 +1,5 @@
 -- The words of replies and events: what is written is read again, and what is read was written so.
-use Rattle.std.proofs.Common.{◌≡◌, ℕ, zero, suc, ◌+◌, ◌<◌, ◌^◌, Bool, true, ℤ, List, [], ◌∷◌, ◌++◌, Option, Some, None, refl, sym, ap, subst, ◌∙◌, append_assoc, arith}
+use Rattle.std.proofs.Common.{◌≡◌, ℕ, zero, suc, ◌+◌, ◌<◌, ◌^◌, Bool, ℤ, List, [], ◌∷◌, ◌++◌, Option, Some, None, refl, sym, ap, subst, ◌∙◌, append_assoc, arith}
 use Rattle.std.specs.Prelude.{IfSome}
 use Rattle.std.specs.Int.{w32, cast_unsigned, cast_signed}
 use Rattle.std.specs.List.{slice_get}
@@ -27,8 +27,8 @@ use Rattle.den_model.specs.declared.reply.WatchEvent.{WatchEvent}
 use Rattle.den_model.specs.declared.reply.WatchEventType.{WatchEventType}
 use Rattle.den_model.specs.declared.reply.WatchEventType.TheVariants as event
 use Rattle.den_model.specs.Spelling.{u32_word, u64_word, i32_word, blob_word, option_word, truth_word, list_word, code_number, refusal_number, event_number, kv_word, hint_word, node_word, payload_word, reply_word, event_word}
-use Rattle.den_model.specs.Words.{IsBytes, FitsU32, FitsU64, FitsI32, FitsText, FitsList, FitsKv, FitsHint, FitsNode, FitsPayload, FitsReply, FitsEvent}
-use Rattle.den_model.specs.Reading.{then_read, done, no_word, byte_at, number_at}
+use Rattle.den_model.specs.Words.{IsBytes, FitsU64, FitsI32, FitsText, FitsList, FitsKv, FitsHint, FitsNode, FitsPayload, FitsReply, FitsEvent}
+use Rattle.den_model.specs.Reading.{then_read, done, number_at}
 use Rattle.den_model.specs.ReplyReading.{text_at, i32_at, all_codes, done_some, code_at, refusal_at, kv_at, hint_at, node_at, written_at, found_at, payload_at, response_at, scanned_at, watching_at, members_at, refused_at, reply_at, kind_at, event_behind, event_at}
 use Rattle.den_model.proofs.Spells.{Spells, itself, some_is, no_none, then_some, spells_done, spells_done_if, spells_then, spells_as, spells_u32, spells_u64, spells_blob, spells_truth, spells_option, spells_list}
 use Rattle.den_model.proofs.LogSpells.{Known}

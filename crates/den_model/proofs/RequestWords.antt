@@ -1,6 +1,6 @@
 -- The words of whole requests: what is read is a word, and each word is read, a time to live of 0 seconds as none.
-use Rattle.std.proofs.Common.{◌≡◌, ℕ, zero, suc, ◌<◌, ◌^◌, Bool, true, false, cond, eqb, List, [], ◌∷◌, ◌++◌, Option, Some, None, refl, sym, ap, subst, ◌∙◌, append_assoc, inl, inr, arith}
-use Rattle.std.specs.Prelude.{IfSome, IsSome, unwrap_or, ◌==◌}
+use Rattle.std.proofs.Common.{◌≡◌, ℕ, suc, ◌<◌, Bool, true, false, cond, eqb, List, [], ◌∷◌, ◌++◌, Option, Some, None, refl, sym, ap, subst, ◌∙◌, append_assoc, inl, inr, arith}
+use Rattle.std.specs.Prelude.{◌↔◌, IfSome, IsSome, unwrap_or}
 use Rattle.std.specs.Int.{w32}
 use Rattle.std.proofs.lemmas.Bool.{eqb-true}
 use Rattle.std.proofs.lemmas.List.{append-nil}
@@ -11,11 +11,11 @@ use Rattle.den_model.specs.declared.request.Request.TheVariants as request
 use Rattle.den_model.specs.declared.request.ReadConsistencyPolicy.{ReadConsistencyPolicy}
 use Rattle.den_model.specs.declared.request.ReadConsistencyPolicy.TheVariants.{LinearizableRead, LeaseRead, EventualConsistency}
 use Rattle.den_model.specs.Spelling.{u32_word, u64_word, blob_word, option_word, truth_word, list_word, policy_number, operation_word, request_word}
-use Rattle.den_model.specs.Words.{IsBytes, FitsU32, FitsU64, FitsBlob, FitsBlobs, FitsSwap, FitsOperation, FitsRequest, IsRequestWord, operation_as_read, as_read}
-use Rattle.den_model.specs.Reading.{Reader, then_read, done, no_word, ended, whole, byte_at, number_at, policy_named, ttl_of, delete_asked_at, swap_asked_at, insert_asked_at, operation_at, write_at, read_at, scan_at, watch_at, request_at}
+use Rattle.den_model.specs.Words.{IsBytes, FitsU32, FitsU64, FitsBlob, FitsSwap, FitsOperation, FitsRequest, IsRequestWord, operation_as_read, as_read}
+use Rattle.den_model.specs.Reading.{Reader, then_read, done, no_word, ended, whole, number_at, policy_named, ttl_of, delete_asked_at, swap_asked_at, operation_at, write_at, read_at, scan_at, watch_at, request_at}
 use Rattle.den_model.proofs.Spells.{Spells, itself, some_is, no_none, then_some, chosen, ended_some, IsBytes-behind, spells_done, spells_then, spells_as, spells_u32, spells_blob, spells_truth, spells_option}
 use Rattle.den_model.proofs.LogSpells.{Known}
-use Rattle.den_model.proofs.RequestSpells.{read_meant, insert_meant, spells_read, spells_insert_asked}
+use Rattle.den_model.proofs.RequestSpells.{read_meant, spells_read, spells_insert_asked}
 use Rattle.den_model.proofs.Tagged.{behind_none, behind_done, behind_spelled, behind_or}
 
 -- ---- times to live
@@ -219,6 +219,10 @@ policy_again None = (omega arith, refl)
 policy_again (Some LinearizableRead) = (omega arith, refl)
 policy_again (Some LeaseRead) = (omega arith, refl)
 policy_again (Some EventualConsistency) = (omega arith, refl)
+
+pub request_iff : (bytes : List ℕ) (x : Request) → IsBytes bytes → (whole request_at bytes ≡ Some x) ↔ ((y : Request) × IsRequestWord bytes y × (as_read y ≡ x))
+request_iff bytes x h =
+    (λ e. let t = request_found bytes x h e in (x, t.0, t.1), λ t. request_again bytes t.0 t.1 ∙ ap (λ (y : Request). Some y) t.2)
 
 -- what is written is a word
 pub request_written : (x : Request) → FitsRequest x → IsRequestWord (request_word x) x

@@ -1,6 +1,6 @@
 -- The words of the journal and of the state's regions: what is written is read again, and what is read was written
 -- so.
-use Rattle.std.proofs.Common.{◌≡◌, ℕ, suc, ◌<◌, ◌≤◌, ◌^◌, Bool, true, List, [], ◌∷◌, ◌++◌, length, Option, Some, refl, sym, ap, subst, ◌∙◌, append_assoc, inl, inr, arith}
+use Rattle.std.proofs.Common.{◌≡◌, ℕ, suc, ◌<◌, ◌≤◌, Bool, true, List, [], ◌∷◌, ◌++◌, length, Option, Some, refl, sym, ap, subst, ◌∙◌, append_assoc, inl, inr, arith}
 use Rattle.std.specs.Prelude.{◌&&◌, ◌==◌, nat_le}
 use Rattle.std.proofs.lemmas.Bool.{eqb-true, le-leb, leb-true, and_parts}
 use Rattle.std.proofs.lemmas.List.{append-nil, nil_from_length}
@@ -9,10 +9,10 @@ use Rattle.den_model.specs.declared.journal.JournalRecord.TheVariants as record'
 use Rattle.den_model.specs.declared.region.StateRegion.{StateRegion}
 use Rattle.den_model.specs.declared.region.StateRegion.TheVariants as state
 use Rattle.den_model.specs.declared.region.StoredPair.{StoredPair}
-use Rattle.den_model.specs.Spelling.{u64_word, blob_word, list_word, record_fields, record_word, pair_word, state_region_word}
+use Rattle.den_model.specs.Spelling.{u64_word, list_word, record_fields, record_word, pair_word, state_region_word}
 use Rattle.den_model.specs.Words.{IsBytes, FitsU64, FitsBlob, FitsList, FitsRecord, FitsPair, FitsStateRegion}
 use Rattle.den_model.specs.Reading.{done_if, no_word, is_empty, record_of, record_at, pair_at, begin_at, pairs_at, records_at, mark_at, state_region_at}
-use Rattle.den_model.proofs.Spells.{Spells, itself, some_is, no_none, done_if_some, chosen, spells_done, spells_then, spells_as, spells_u64, spells_blob, spells_list}
+use Rattle.den_model.proofs.Spells.{Spells, itself, no_none, done_if_some, chosen, spells_done, spells_then, spells_as, spells_u64, spells_blob, spells_list}
 use Rattle.den_model.proofs.LogSpells.{Known}
 use Rattle.den_model.proofs.RequestSpells.{spells_byte}
 use Rattle.den_model.proofs.Tagged.{behind_none, behind_spelled, behind_or}

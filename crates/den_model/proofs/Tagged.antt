@@ -1,5 +1,5 @@
 -- Words that begin with a tag: what is read behind it was written so, if that holds for each tag.
-use Rattle.std.proofs.Common.{◌≡◌, ℕ, true, cond, eqb, List, ◌∷◌, ◌++◌, Some, refl, sym, ap, subst, ◌∙◌, inl, inr}
+use Rattle.std.proofs.Common.{◌≡◌, ℕ, cond, eqb, List, ◌∷◌, ◌++◌, Some, sym, ap, subst, ◌∙◌, inl, inr}
 use Rattle.std.proofs.lemmas.Bool.{eqb-true}
 use Rattle.den_model.specs.Words.{IsBytes}
 use Rattle.den_model.specs.Reading.{Reader, done, no_word}

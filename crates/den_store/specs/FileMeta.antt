@@ -1,5 +1,5 @@
 -- A store of the hard state over a gate file.
-use Rattle.std.specs.Prelude.{◌≡◌, ℕ, Option, Some, None, Result, Ok}
+use Rattle.std.specs.Prelude.{◌≡◌, ℕ, false, Option, Some, None, Result, Ok}
 use Rattle.std.proofs.Common.{◌∙◌, sym, ap, subst}
 use Rattle.den_disk.specs.declared.place.Family.{Family}
 use Rattle.den_disk.specs.declared.place.Family.TheVariants.{Meta as meta_family}
@@ -13,6 +13,14 @@ use Rattle.den_gate.proofs.Families.{rest_spared, current_spared, payloads_spare
 use Rattle.den_store.specs.declared.meta_store.FileMetaStore.{FileMetaStore}
 use Rattle.den_store.specs.Meanings.{own_meaning}
 
+-- its last hard state
+abbrev pub file_state : FileMetaStore → Option HardState
+file_state s = s.last
+
+-- its gate file has not failed
+abbrev pub IsMetaReady : FileMetaStore → Type 0
+IsMetaReady s = s.gate.failed ≡ false
+
 -- what files give of hard states
 abbrev pub state_held : Files → Option (Option HardState)
 state_held files = ok (hard_state_held files)
@@ -22,7 +30,7 @@ pub record MetaRests (s : FileMetaStore) (c : Content) : Type 0 where
   pub family : s.gate.slot.family ≡ meta_family
   pub at_rest : IsAtRest s.gate c
   pub current : IsCurrent s.gate.slot c
-  pub gives : hard_state_from None (placed 0 (payloads s.gate c.reading)) ≡ Ok s.last
+  pub gives : hard_state_from None (placed 0 (payloads s.gate c.reading)) ≡ Ok (file_state s)
 
 pub meta_rests_own : (s : FileMetaStore) (old new : Content) → SparesOwn meta_family old new → MetaRests s old → MetaRests s new
 meta_rests_own s old new spares rests =
@@ -37,6 +45,6 @@ meta_rests_own s old new spares rests =
 pub meta_holds_own : (one other : Files) → SameOf meta_family one other → state_held other ≡ state_held one
 meta_holds_own one other same = ap ok (own_meaning meta_family (hard_state_from None) one other same)
 
-pub meta_rests_hold : (s : FileMetaStore) (c : Content) (files : Files) → MetaRests s c → IsImage c files → state_held files ≡ Some s.last
+pub meta_rests_hold : (s : FileMetaStore) (c : Content) (files : Files) → MetaRests s c → IsImage c files → state_held files ≡ Some (file_state s)
 meta_rests_hold s c files rests image =
     ap ok (has_meaning meta_family (hard_state_from None) s.gate.slot (payloads s.gate c.reading) files rests.family (rest_image s.gate c files rests.at_rest rests.current image) ∙ rests.gives)

@@ -4,5 +4,6 @@ pub mod FileMeta
 pub mod Folding
 pub mod Held
 pub mod Meanings
+pub mod Opening
 pub mod Order
 pub mod Refused

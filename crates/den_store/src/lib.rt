@@ -2,10 +2,10 @@
 #![tactic(auto)]
 
 mod copies;
+mod family;
 mod held_log;
 mod log_store;
 mod meta_store;
-mod refused;
 mod replay;
 mod stores;
 
