@@ -4,41 +4,14 @@ ghost use Rattle.den_disk.specs.Goes.{Rose, IsPrefix, stamped, added, DiskGoesOn
 ghost use Rattle.den_model.specs.Crash.{Survives, IsWhole, IsDone, IsServed, Tells};
 ghost use Rattle.den_model.specs.Frames.{framed, frames, IsBuiltFrame};
 ghost use Rattle.den_model.specs.Plan.{turn, turns, plan};
-ghost use Rattle.den_model.specs.Spelling.{reply_word, event_word};
 ghost use Rattle.den_core.specs.Answers.{frames_of};
 ghost use Rattle.den_core.specs.Early.{EarlyIsRefused};
 ghost use Rattle.den_core.specs.Refusals.{IsLinkRefusal, IsServeRefusal};
 
 use crate::{FrameReader, StepOut, Stepper};
-use den_codec::{Error, Frame, Reply, WatchEvent};
+use den_codec::{Error, Frame, Word};
 use den_disk::{Clock, Disk, Link};
 use std::alloc::{AllocError, Global};
-
-/// What is sent as a frame.
-trait FrameBody {
-    /// The bytes behind the frame's length.
-    ghost body: { Self → List ℕ };
-
-    /// Appends the body.
-    fn put_body(&self, out: &mut Vec<u8>) -> Result<(), AllocError>
-        ensures { OnOk result (out.new.items ≡ out.old.items ++ body self.now) };
-}
-
-impl FrameBody for Reply {
-    ghost body = { reply_word };
-
-    fn put_body(&self, out: &mut Vec<u8>) -> Result<(), AllocError> {
-        Err(AllocError)
-    }
-}
-
-impl FrameBody for WatchEvent {
-    ghost body = { event_word };
-
-    fn put_body(&self, out: &mut Vec<u8>) -> Result<(), AllocError> {
-        Err(AllocError)
-    }
-}
 
 /// Writes the length of what stands behind the first eight bytes into those.
 fn set_length(frame: &mut [u8])
@@ -49,32 +22,32 @@ fn set_length(frame: &mut [u8])
     frame[..8].copy_from_slice(&size.to_be_bytes());
 }
 
-/// Makes the buffer a body's frame.
-fn put_frame<B: FrameBody>(body: &B, frame: &mut Vec<u8>) -> Result<(), AllocError>
-    ensures { OnOk result (frame.new.items ≡ framed (B.body body.now)) }
+/// Makes the buffer the frame of a value's word.
+fn put_frame<W: Word>(value: &W, frame: &mut Vec<u8>) -> Result<(), AllocError>
+    ensures { OnOk result (frame.new.items ≡ framed (W.word value.now)) }
 {
     frame.clear();
     frame.extend_from_slice(&[0; 8])?;
-    body.put_body(frame)?;
+    value.put(frame)?;
     set_length(frame);
     Ok(())
 }
 
-/// Sends a body as a frame, which is made in the buffer first.
-fn send_frame<D: Disk, L: Link, B: FrameBody>(
+/// Sends the frame of a value's word, which is made in the buffer first.
+fn send_frame<D: Disk, L: Link, W: Word>(
     link: &mut L,
     disk: &D,
-    body: &B,
+    value: &W,
     frame: &mut Vec<u8>,
 ) -> Result<(), Error>
     ensures on { LinkGoesOn L.tells L.sent L.budget L.taken L.faults link.old link.new }
     ensures left { IsTrue (L.tells link.old) → L.left link.new ≡ L.left link.old }
-    ensures all { OnOk result (IsTrue (L.tells link.old) → L.sent link.new ≡ L.sent link.old ++ stamped (framed (B.body body.now)) (D.moment disk.now)) }
-    ensures front { IsTrue (L.tells link.old) → (front : List ℕ) × IsPrefix front (framed (B.body body.now))
+    ensures all { OnOk result (IsTrue (L.tells link.old) → L.sent link.new ≡ L.sent link.old ++ stamped (framed (W.word value.now)) (D.moment disk.now)) }
+    ensures front { IsTrue (L.tells link.old) → (front : List ℕ) × IsPrefix front (framed (W.word value.now))
         × (L.sent link.new ≡ L.sent link.old ++ stamped front (D.moment disk.now)) }
     ensures refused { IfErr result (λ e. IsLinkRefusal (Rose (L.faults link.old) (L.faults link.new)) e) }
 {
-    put_frame(body, frame)?;
+    put_frame(value, frame)?;
     link.send(frame, disk)?;
     Ok(())
 }
