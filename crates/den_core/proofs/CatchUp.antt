@@ -1,5 +1,5 @@
 -- The log's entries above the map's mark, and what applying them leaves.
-use Rattle.std.proofs.Common.{◌≡◌, ℕ, suc, ◌≤◌, ◌<◌, ◌+◌, ◌-◌, ◌^◌, ◌&&◌, ◌||◌, ◌==◌, Bool, true, false, List, [], ◌∷◌, length, get_or, Option, Some, None, cond, nat_le, nat_lt, if◌then◌else◌, inl, inr, ⊎_elim, refl, sym, ◌∙◌, ap, subst, arith}
+use Rattle.std.proofs.Common.{◌≡◌, ℕ, suc, ◌≤◌, ◌<◌, ◌+◌, ◌-◌, ◌^◌, ◌&&◌, ◌||◌, ◌==◌, Bool, true, false, List, [], ◌∷◌, length, get_or, Option, Some, None, IsSome, cond, nat_le, nat_lt, if◌then◌else◌, inl, inr, ⊎_elim, refl, sym, ◌∙◌, ap, subst, arith}
 use Rattle.std.proofs.lemmas.Bool.{cases_lt, eq-eqb, le-leb, lt-leb, le-ltb, lt-ltb, eqb-true, ltb-true, leb-true}
 use Rattle.den_model.specs.declared.command.Command.{Command}
 use Rattle.den_model.specs.declared.command.Command.TheVariants.{Noop, Insert, Delete, CompareAndSwap}
@@ -13,7 +13,8 @@ use Rattle.den_model.specs.MapState.{MapState, part_of, map_applied, map_applied
 use Rattle.den_state.specs.Chunk.{asks_lease, out_of_order}
 use Rattle.den_store.specs.Order.{IsInOrder}
 use Rattle.den_core.specs.Joined.{durable_is, found_is}
-use Rattle.den_core.specs.Opening.{agrees, is_exhausted, opening_refusal, refusal_by, refusal_for}
+use Rattle.den_core.specs.Opening.{agrees, is_exhausted, opening_refusal, refusal_by, refusal_for, IsLeft}
+use Rattle.den_codec.specs.declared.error.Error.{Error}
 use Rattle.den_core.specs.Parts.{durable_of, IsCaughtUp}
 use Rattle.den_core.proofs.Durables.{AllUpTo, none_above, up_to_more, applied_is}
 
@@ -120,12 +121,6 @@ pub applied_all_is : (h : Option HardState) (s : MapState) (es : List LogEntry) 
 applied_all_is h s [] = refl
 applied_all_is h s (e ∷ es) = applied_all_is h (map_applied s e) es ∙ ap (λ d. applied_all d es) (applied_is h s e)
 
--- they agree, and these entries are left to apply
-pub record IsLeft (l : Log) (s : MapState) (es : List LogEntry) : Type 0 where
-  pub purged : floor l ≤ s.mark.index
-  pub are : above s.mark.index l.entries ≡ es
-  pub run : run_from (s.mark.index + 1) es ≡ true
-
 module _ (l : Log) (s : MapState) (es : List LogEntry) (left : IsLeft l s es) where
   pub left_is : (h : Option HardState) → durable l h s ≡ Some (applied_all (durable_of h s) es)
   left_is h = found_is l h s es left.purged left.are ∙ ap (λ b. if b then Some (applied_all (durable_of h s) es) else None) left.run
@@ -145,6 +140,9 @@ module _ (l : Log) (s : MapState) (es : List LogEntry) (left : IsLeft l s es) wh
 
   pub left_again : (h : Option HardState) → durable l h (map_applied_all s es) ≡ Some (applied_all (durable_of h s) es)
   left_again h = durable_is l h (map_applied_all s es) left_caught_up ∙ ap (λ d. Some d) (applied_all_is h s es)
+
+  pub left_applied : (h : Option HardState) → durable l h s ≡ Some (durable_of h (map_applied_all s es))
+  left_applied h = left_is h ∙ ap (λ d. Some d) (sym (applied_all_is h s es))
 
 -- ---- the last term and index
 
@@ -189,11 +187,26 @@ unrefused place true false exhausted none = (refl, refl)
 unrefused place true true exhausted none = cc
 unrefused place false lease exhausted none = cc
 
-pub left_of : (place : ℕ) (l : Log) (s : MapState) (es : List LogEntry) (lease exhausted : Bool) → above s.mark.index l.entries ≡ es
-    → refusal_by place (agrees l s.mark.index es) lease exhausted ≡ None → IsLeft l s es
-left_of place l s es lease exhausted are none =
-    let two = both (nat_le (floor l) s.mark.index) (run_from (s.mark.index + 1) es) (unrefused place (agrees l s.mark.index es) lease exhausted none).0 in
-    record { purged = leb-true (floor l) s.mark.index two.0; are = are; run = two.1 }
+module _ (place : ℕ) (l : Log) (h : Option HardState) (s : MapState) (mark : ℕ) (es : List LogEntry) (result : Option Error) (is_mark : mark ≡ s.mark.index) (are : es ≡ above mark l.entries)
+    (is : result ≡ refusal_by place (agrees l mark es) (asks_lease es) ((term_of h == 2 ^ 64 - 1) || (last_of mark es == 2 ^ 64 - 1))) where
+  here : above s.mark.index l.entries ≡ es
+  here = ap (λ n. above n l.entries) (sym is_mark) ∙ sym are
 
-pub lease_free : (place : ℕ) (agree lease exhausted : Bool) → refusal_by place agree lease exhausted ≡ None → lease ≡ false
-lease_free place agree lease exhausted none = (unrefused place agree lease exhausted none).1
+  same : refusal_by place (agrees l s.mark.index es) (asks_lease es) ((term_of h == 2 ^ 64 - 1) || (last_of s.mark.index es == 2 ^ 64 - 1)) ≡ result
+  same = ap (λ n. refusal_by place (agrees l n es) (asks_lease es) ((term_of h == 2 ^ 64 - 1) || (last_of n es == 2 ^ 64 - 1))) (sym is_mark) ∙ sym is
+
+  pub refused_here : opening_refusal place l h s ≡ result
+  refused_here = refusal_is place l h s es here ∙ same
+
+  pub left_here : result ≡ None → IsLeft l s es
+  left_here none =
+      let free = unrefused place (agrees l s.mark.index es) (asks_lease es) ((term_of h == 2 ^ 64 - 1) || (last_of s.mark.index es == 2 ^ 64 - 1)) (same ∙ none) in
+      let two = both (nat_le (floor l) s.mark.index) (run_from (s.mark.index + 1) es) free.0 in
+      record { purged = leb-true (floor l) s.mark.index two.0; are = here; run = two.1 }
+
+  pub free_here : result ≡ None → asks_lease es ≡ false
+  free_here none = (unrefused place (agrees l s.mark.index es) (asks_lease es) ((term_of h == 2 ^ 64 - 1) || (last_of s.mark.index es == 2 ^ 64 - 1)) (same ∙ none)).1
+
+pub none_some : {X : Type 0} (o : Option X) → o ≡ None → IsSome o → ⊥
+none_some None none some = cc
+none_some (Some x) none some = cc

@@ -1,5 +1,5 @@
 -- What a call on one store's files leaves of the others', and what the three stand for then.
-use Rattle.std.proofs.Common.{◌≡◌, ◌⊎◌, ◌↔◌, inl, inr, ⊎_elim, ℕ, ◌≤◌, ◌<◌, Option, Some, refl, sym, ◌∙◌, ap, subst, arith}
+use Rattle.std.proofs.Common.{◌≡◌, ◌⊎◌, ◌↔◌, inl, inr, ⊎_elim, ℕ, ◌≤◌, ◌<◌, Option, Some, Result, Ok, Err, OnOk, refl, sym, ◌∙◌, ap, subst, arith}
 use Rattle.std.proofs.lemmas.Bool.{cases_lt}
 use Rattle.den_disk.specs.declared.place.Family.{Family}
 use Rattle.den_disk.specs.declared.place.Family.TheVariants.{Log as log_family, Meta as meta_family, State as state_family}
@@ -129,3 +129,7 @@ spares_none own images now = record {
 -- a call that moves nothing
 pub same_gives : {X : Type 0} (holds : Files → Option X) (images : ℕ → Files → Type 0) (from to : ℕ) (x : X) → OldOrNew holds images from to x x → Gives holds images from to x
 same_gives holds images from to x moves = record { each = λ t files begun ended at. ⊎_elim (λ old. old) (λ new. new) (moves.each t files begun ended at) }
+
+pub on_ok_just : {T E P : Type 0} (r : Result T E) → P → OnOk r P
+on_ok_just (Ok x) p = p
+on_ok_just (Err e) p = tt

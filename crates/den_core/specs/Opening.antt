@@ -1,5 +1,5 @@
 -- What opening refuses, and why it ends early.
-use Rattle.std.specs.Prelude.{◌≡◌, ◌⊎◌, ◌+◌, ◌-◌, ◌^◌, ◌==◌, ◌&&◌, ◌||◌, not, nat_le, ℕ, Bool, List, Option, Some, None, if◌then◌else◌}
+use Rattle.std.specs.Prelude.{◌≡◌, ◌≤◌, ◌⊎◌, ◌+◌, ◌-◌, ◌^◌, ◌==◌, ◌&&◌, ◌||◌, not, nat_le, ℕ, Bool, true, List, Option, Some, None, if◌then◌else◌}
 use Rattle.den_codec.specs.declared.error.Error.{Error}
 use Rattle.den_codec.specs.declared.error.Error.TheVariants.{DataCorruption, FeatureNotEnabled, ProposeFailed, OutOfMemory}
 use Rattle.den_model.specs.declared.log_id.HardState.{HardState}
@@ -28,6 +28,12 @@ opening_refusal place l h s = refusal_for place (asks_lease (above s.mark.index 
 -- whether the log's entries go on behind this index without a gap
 abbrev pub agrees : Log → ℕ → List LogEntry → Bool
 agrees l index entries = nat_le (floor l) index && run_from (index + 1) entries
+
+-- they agree, and these entries are left to apply
+pub record IsLeft (l : Log) (s : MapState) (entries : List LogEntry) : Type 0 where
+  pub purged : floor l ≤ s.mark.index
+  pub are : above s.mark.index l.entries ≡ entries
+  pub run : run_from (s.mark.index + 1) entries ≡ true
 
 -- the same refusal, by tests
 abbrev pub refusal_by : ℕ → Bool → Bool → Bool → Option Error

@@ -12,7 +12,7 @@ ghost use Rattle.den_model.specs.Log.{above, floor, last_of};
 ghost use Rattle.den_model.specs.MapState.{map_applied_all};
 ghost use Rattle.den_state.specs.Chunk.{asks_lease, out_of_order};
 ghost use Rattle.den_store.specs.Causes.{IsRefusal};
-ghost use Rattle.den_core.specs.Opening.{agrees, opening_refusal, refusal_by, IsOpeningFailure};
+ghost use Rattle.den_core.specs.Opening.{agrees, opening_refusal, refusal_by, IsLeft, IsOpeningFailure};
 ghost use Rattle.den_core.specs.Parts.{kv_of, IsPlain, AllRest};
 
 use crate::ask::has_ttl;
@@ -147,6 +147,39 @@ fn apply_all<D: Disk, M: StateMachine<D>>(
     Ok(())
 }
 
+/// Brings stores together, the log's entries above the map's mark being these. Applying them moves nothing that the files
+/// stand for.
+fn catch_up<D: Disk, G: LogStore<D>, T: MetaStore<D>, M: StateMachine<D>>(
+    alloc: Global,
+    disk: &mut D,
+    log: G,
+    meta: T,
+    state: M,
+    running: Running,
+    entries: &[Entry],
+) -> Result<Engine<G, T, M>, Error>
+    requires log_ready { G.ready log }
+    requires meta_ready { T.ready meta }
+    requires state_ready { M.ready state }
+    requires rests { IsTrue (D.kind disk.old).tells → AllRest (G.rests log (D.content disk.old)) (T.rests meta (D.content disk.old)) (M.rests state (D.content disk.old)) }
+    requires plain { IsPlain running }
+    requires left { IsLeft (G.log log) (M.map state) entries.now }
+    requires no_ttl { asks_lease entries.now ≡ false }
+    ensures disk { DiskGoesOn D.kind D.moment D.images D.faults disk.old disk.new }
+    ensures survives { (kept : Durable) → IsTrue (D.kind disk.old).tells → durable (G.log log) (T.hard_state meta) (M.map state) ≡ Some kept
+        → Survives (λ files. joined (G.holds files) (T.holds files) (M.holds files)) (D.images disk.new) (D.moment disk.old) (D.moment disk.new) []
+        (record { durable = kept; running = running }) [] }
+    ensures opened { IfOk result (λ engine. durable (G.log log) (T.hard_state meta) (M.map state) ≡ Some (⟦<Engine<G, T, M> as Stepper<D>>⟧.kv engine).durable) }
+    ensures running { IfOk result (λ engine. (⟦<Engine<G, T, M> as Stepper<D>>⟧.kv engine).running ≡ running) }
+    ensures ready { IfOk result (λ engine. ⟦<Engine<G, T, M> as Stepper<D>>⟧.ready engine) }
+    ensures rests { IfOk result (λ engine. IsTrue (D.kind disk.old).tells → ⟦<Engine<G, T, M> as Stepper<D>>⟧.rests engine (D.content disk.new)) }
+    ensures refused { IfErr result (λ e. IsRefusal (Rose (D.faults disk.old) (D.faults disk.new)) (D.kind disk.old).limit e) }
+{
+    let mut state = state;
+    apply_all(&mut state, disk, entries)?;
+    Ok(Engine::new::<D>(alloc, log, meta, state, running))
+}
+
 /// Brings stores together as they were opened: the log's entries above the map's mark are applied, which moves nothing
 /// that the files stand for. Where log and map disagree, where an entry to apply has a time to live, and where no term
 /// or index is left, it refuses, with nothing written.
@@ -176,12 +209,11 @@ pub fn recover<D: Disk, G: LogStore<D>, T: MetaStore<D>, M: StateMachine<D>>(
         (opening_refusal (G.place log) (G.log log) (T.hard_state meta) (M.map state)) e) }
     ensures untouched { IsSome (opening_refusal (G.place log) (G.log log) (T.hard_state meta) (M.map state)) → disk.new ≡ disk.old }
 {
-    let mut state = state;
     let mark = state.last_applied().index;
-    let entries = entries_above::<D, G>(&log, mark)?;
-    if let Some(refused) = refusal::<D, G, T>(&log, &meta, mark, entries.as_slice()) {
-        return Err(refused);
+    let found = entries_above::<D, G>(&log, mark)?;
+    let entries = found.as_slice();
+    match refusal::<D, G, T>(&log, &meta, mark, entries) {
+        Some(refused) => Err(refused),
+        None => catch_up(alloc, disk, log, meta, state, running, entries),
     }
-    apply_all(&mut state, disk, entries.as_slice())?;
-    Ok(Engine::new::<D>(alloc, log, meta, state, running))
 }

@@ -1,0 +1,63 @@
+use Rattle.std.proofs.Common.{inl, inr, ap, ◌∙◌}
+use Rattle.std.proofs.lemmas.Result.{IfErr-weaker}
+use Rattle.den_core.proofs.CatchUp.{refused_here, left_here, free_here, none_some}
+use Rattle.den_core.proofs.Quiet.{stays}
+use Rattle.den_core.proofs.Spared.{gives_now, all_give, on_ok_just}
+use Rattle.den_core.proofs.opening.recover.Goals as goal
+
+-- nothing was done
+pub returns-in_err-found-clause-survives : goal.returns-in_err-found-clause-survives
+returns-in_err-found-clause-survives g c = λ kept told is.
+    let D = g.D.Disk in
+    let disk = c.args.disk.now in
+    let rests = c.requires.rests told in
+    stays _ _ _ _ _ (all_give g.G.LogStore.holds g.T.MetaStore.holds g.M.StateMachine.holds _ _ _ _ _ _ _ is
+    (gives_now _ (g.G.LogStore.rests c.args.log) _ _ _ _ (λ files. g.met.D.Disk.images_now disk files told)
+    (λ files rest at. g.met.G.LogStore.rests_hold c.args.log (D.content disk) files c.requires.log_ready rest at) rests.log)
+    (gives_now _ (g.T.MetaStore.rests c.args.meta) _ _ _ _ (λ files. g.met.D.Disk.images_now disk files told)
+    (λ files rest at. g.met.T.MetaStore.rests_hold c.args.meta (D.content disk) files c.requires.meta_ready rest at) rests.meta)
+    (gives_now _ (g.M.StateMachine.rests c.args.state) _ _ _ _ (λ files. g.met.D.Disk.images_now disk files told)
+    (λ files rest at. g.met.M.StateMachine.rests_hold c.args.state (D.content disk) files c.requires.state_ready rest at) rests.state))
+
+pub returns-in-Some-clause-survives : goal.returns-in-Some-clause-survives
+returns-in-Some-clause-survives g c = λ kept told is.
+    let D = g.D.Disk in
+    let disk = c.args.disk.now in
+    let rests = c.requires.rests told in
+    stays _ _ _ _ _ (all_give g.G.LogStore.holds g.T.MetaStore.holds g.M.StateMachine.holds _ _ _ _ _ _ _ is
+    (gives_now _ (g.G.LogStore.rests c.args.log) _ _ _ _ (λ files. g.met.D.Disk.images_now disk files told)
+    (λ files rest at. g.met.G.LogStore.rests_hold c.args.log (D.content disk) files c.requires.log_ready rest at) rests.log)
+    (gives_now _ (g.T.MetaStore.rests c.args.meta) _ _ _ _ (λ files. g.met.D.Disk.images_now disk files told)
+    (λ files rest at. g.met.T.MetaStore.rests_hold c.args.meta (D.content disk) files c.requires.meta_ready rest at) rests.meta)
+    (gives_now _ (g.M.StateMachine.rests c.args.state) _ _ _ _ (λ files. g.met.D.Disk.images_now disk files told)
+    (λ files rest at. g.met.M.StateMachine.rests_hold c.args.state (D.content disk) files c.requires.state_ready rest at) rests.state))
+
+pub returns-in-Some-clause-refused : goal.returns-in-Some-clause-refused
+returns-in-Some-clause-refused g c = inl (refused_here _ (g.G.LogStore.log c.args.log) (g.T.MetaStore.hard_state c.args.meta) (g.M.StateMachine.map c.args.state) _ _ _
+    (ap (λ i. i.index) c.last_applied-mark.ensures) (c.as_slice-entries.ensures ∙ c.in_ok-found.ensures.entries) c.refusal.ensures ∙ c.in-Some.is)
+
+pub catch_up-requires-clause-left : goal.catch_up-requires-clause-left
+catch_up-requires-clause-left g c = left_here _ (g.G.LogStore.log c.args.log) (g.T.MetaStore.hard_state c.args.meta) (g.M.StateMachine.map c.args.state) _ _ _
+    (ap (λ i. i.index) c.last_applied-mark.ensures) (c.as_slice-entries.ensures ∙ c.in_ok-found.ensures.entries) c.refusal.ensures c.in-None.is
+
+pub catch_up-requires-clause-no_ttl : goal.catch_up-requires-clause-no_ttl
+catch_up-requires-clause-no_ttl g c = free_here _ (g.G.LogStore.log c.args.log) (g.T.MetaStore.hard_state c.args.meta) (g.M.StateMachine.map c.args.state) _ _ _
+    (ap (λ i. i.index) c.last_applied-mark.ensures) (c.as_slice-entries.ensures ∙ c.in_ok-found.ensures.entries) c.refusal.ensures c.in-None.is
+
+pub returns-in-None-clause-unrefused : goal.returns-in-None-clause-unrefused
+returns-in-None-clause-unrefused g c =
+    let none = refused_here _ (g.G.LogStore.log c.args.log) (g.T.MetaStore.hard_state c.args.meta) (g.M.StateMachine.map c.args.state) _ _ _
+    (ap (λ i. i.index) c.last_applied-mark.ensures) (c.as_slice-entries.ensures ∙ c.in_ok-found.ensures.entries) c.refusal.ensures ∙ c.in-None.is in
+    on_ok_just c.catch_up.result none
+
+pub returns-in-None-clause-refused : goal.returns-in-None-clause-refused
+returns-in-None-clause-refused g c =
+    let none = refused_here _ (g.G.LogStore.log c.args.log) (g.T.MetaStore.hard_state c.args.meta) (g.M.StateMachine.map c.args.state) _ _ _
+    (ap (λ i. i.index) c.last_applied-mark.ensures) (c.as_slice-entries.ensures ∙ c.in_ok-found.ensures.entries) c.refusal.ensures ∙ c.in-None.is in
+    IfErr-weaker c.catch_up.result _ _ (λ e is. inr (inr (none, is))) c.catch_up.ensures.refused
+
+pub returns-in-None-clause-untouched : goal.returns-in-None-clause-untouched
+returns-in-None-clause-untouched g c = λ some.
+    let none = refused_here _ (g.G.LogStore.log c.args.log) (g.T.MetaStore.hard_state c.args.meta) (g.M.StateMachine.map c.args.state) _ _ _
+    (ap (λ i. i.index) c.last_applied-mark.ensures) (c.as_slice-entries.ensures ∙ c.in_ok-found.ensures.entries) c.refusal.ensures ∙ c.in-None.is in
+    absurd (none_some _ none some)
