@@ -1,5 +1,5 @@
 //! The configuration of a node.
-ghost use Rattle.std.specs.Prelude.{◌≡◌, IsTrue, IfOk, IfErr, is_ok};
+ghost use Rattle.std.specs.Prelude.{◌≡◌, ◌≤◌, IsTrue, IfOk, IfErr, is_ok};
 ghost use Rattle.den_codec.specs.Nodes.{has_id, ids_differ, is_cluster, fits_solo, is_solo};
 ghost use Rattle.den_codec.specs.declared.error.Error.TheVariants.{Config};
 ghost use Rattle.den_codec.specs.declared.error.ConfigPlace.TheVariants.{InitialCluster};
@@ -27,6 +27,7 @@ pub struct LeaseConfig {
     pub cleanup_interval_ms: u64,
     /// Kept, and not used.
     pub max_cleanup_duration_ms: u64,
+    ghost often: { 1 ≤ cleanup_interval_ms },
 }
 
 /// How many watchers there may be, and how many events wait for each.
@@ -34,12 +35,14 @@ pub struct LeaseConfig {
 pub struct WatchConfig {
     pub max_watcher_count: u32,
     pub watcher_buffer_size: u32,
+    ghost some: { 1 ≤ watcher_buffer_size },
 }
 
 /// The longest body of a request's frame, in bytes.
 #[derive(Clone, Copy, Debug, PartialEq, Eq)]
 pub struct NetworkConfig {
     pub max_frame_size: u32,
+    ghost some: { 1 ≤ max_frame_size },
 }
 
 /// What the log, the leases and the watchers may take.

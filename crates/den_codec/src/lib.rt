@@ -3,7 +3,6 @@
 
 mod config;
 mod error;
-mod standard;
 mod fields;
 mod frames;
 mod log_words;
@@ -11,6 +10,7 @@ mod reads;
 mod region_words;
 mod reply_words;
 mod request_words;
+mod standard;
 mod state_words;
 mod word;
 
@@ -33,3 +33,6 @@ pub use region_words::write_append;
 pub use request_words::read_request;
 pub use state_words::write_records;
 pub use word::Word;
+
+#[cfg(test)]
+mod tests;

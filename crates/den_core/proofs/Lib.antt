@@ -9,6 +9,6 @@ pub mod FirstFrame
 pub mod FramesSoFar
 pub mod GoesOn
 pub mod Lists
-pub mod Opening
+pub mod Beginning
 pub mod Sending
 pub mod Stretch

@@ -3,7 +3,7 @@ use Rattle.den_disk.specs.Files.{Kind}
 use Rattle.den_model.specs.Crash.{Stands, Tells}
 use Rattle.den_model.specs.Frames.{frames}
 use Rattle.den_core.proofs.GoesOn.{on_ok_three}
-use Rattle.den_core.proofs.Opening.{opens_only, runs, runs_whole}
+use Rattle.den_core.proofs.Beginning.{opens_only, runs, runs_whole}
 use Rattle.den_core.proofs.Stretch.{stands_now}
 use Rattle.den_core.proofs.server.run_from.Goals as goal
 
