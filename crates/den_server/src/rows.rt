@@ -6,22 +6,36 @@ use std::alloc::Global;
 use std::test::Fail;
 
 // A put of a = b, and a read of a.
-const PUT: &[u8] = b"\0\0\0\0\0\0\0\x20\x01\0\0\0\x01\x01\0\0\0\0\0\0\0\x01a\0\0\0\0\0\0\0\x01b\0\0\0\0\0\0\0\0";
+const PUT: &[u8] =
+    b"\0\0\0\0\0\0\0\x20\x01\0\0\0\x01\x01\0\0\0\0\0\0\0\x01a\0\0\0\0\0\0\0\x01b\0\0\0\0\0\0\0\0";
+
 const READ: &[u8] = b"\0\0\0\0\0\0\0\x17\x02\0\0\0\x01\0\0\0\0\0\0\0\0\x01\0\0\0\0\0\0\0\x01a";
 // Their replies.
 const WRITTEN: &[u8] = b"\0\0\0\0\0\0\0\x06\x01\0\0\0\x01\x01";
-const PAIR: &[u8] = b"\0\0\0\0\0\0\0\x1f\x01\0\0\0\x02\0\0\0\0\0\0\0\x01\0\0\0\0\0\0\0\x01a\0\0\0\0\0\0\0\x01b";
+
+const PAIR: &[u8] =
+    b"\0\0\0\0\0\0\0\x1f\x01\0\0\0\x02\0\0\0\0\0\0\0\x01\0\0\0\0\0\0\0\x01a\0\0\0\0\0\0\0\x01b";
 // What is answered where a request is not carried out.
 const NOT_BUILT: &[u8] = b"\0\0\0\0\0\0\0\x02\x06\xff";
 // A put with a time to live, and a scan of everything.
-const PUT_WITH_TTL: &[u8] = b"\0\0\0\0\0\0\0\x20\x01\0\0\0\x01\x01\0\0\0\0\0\0\0\x01a\0\0\0\0\0\0\0\x01b\0\0\0\0\0\0\0\x05";
+const PUT_WITH_TTL: &[u8] =
+    b"\0\0\0\0\0\0\0\x20\x01\0\0\0\x01\x01\0\0\0\0\0\0\0\x01a\0\0\0\0\0\0\0\x01b\0\0\0\0\0\0\0\x05";
+
 const SCAN: &[u8] = b"\0\0\0\0\0\0\0\x0d\x03\0\0\0\x01\0\0\0\0\0\0\0\0";
 // The open regions of log, hard state and state: of the first term and its entry without effect, then of the put.
-const LOG_OF_NOOP: &[u8] = b"\x01\0\0\0\0\0\0\0\x22\x01\0\0\0\0\0\0\0\x01\0\0\0\0\0\0\0\x01\0\0\0\0\0\0\0\x01\0\0\0\0\0\0\x03\xe8\0";
-const LOG_OF_PUT: &[u8] = b"\x01\0\0\0\0\0\0\0\x35\x01\0\0\0\0\0\0\0\x01\0\0\0\0\0\0\0\x02\0\0\0\0\0\0\0\x01\0\0\0\0\0\0\x03\xe8\x01\0\0\0\0\0\0\0\x01a\0\0\0\0\0\0\0\x01b\0";
+const LOG_OF_NOOP: &[u8] =
+    b"\x01\0\0\0\0\0\0\0\x22\x01\0\0\0\0\0\0\0\x01\0\0\0\0\0\0\0\x01\0\0\0\0\0\0\0\x01\0\0\0\0\0\0\x03\xe8\0";
+
+const LOG_OF_PUT: &[u8] =
+    b"\x01\0\0\0\0\0\0\0\x35\x01\0\0\0\0\0\0\0\x01\0\0\0\0\0\0\0\x02\0\0\0\0\0\0\0\x01\0\0\0\0\0\0\x03\xe8\x01\0\0\0\0\0\0\0\x01a\0\0\0\0\0\0\0\x01b\0";
+
 const META: &[u8] = b"\x01\0\0\0\0\0\0\0\x15\0\0\0\0\0\0\0\x01\x01\0\0\0\x01\0\0\0\0\0\0\0\x01";
-const STATE_OF_NOOP: &[u8] = b"\x01\0\0\0\0\0\0\0\x32\x03\0\0\0\0\0\0\0\x01\0\0\0\0\0\0\0\x01\0\0\0\0\0\0\0\x01\0\0\0\0\0\0\0\0\0\0\0\0\0\0\0\0\0\0\0\0\0\0\0\0\0";
-const STATE_OF_PUT: &[u8] = b"\x01\0\0\0\0\0\0\0\x34\x03\0\0\0\0\0\0\0\x01\0\0\0\0\0\0\0\x02\0\0\0\0\0\0\0\x01\x01\0\0\0\0\0\0\0\x01a\0\0\0\0\0\0\0\x01b\0\0\0\0\0\0\0\0";
+
+const STATE_OF_NOOP: &[u8] =
+    b"\x01\0\0\0\0\0\0\0\x32\x03\0\0\0\0\0\0\0\x01\0\0\0\0\0\0\0\x01\0\0\0\0\0\0\0\x01\0\0\0\0\0\0\0\0\0\0\0\0\0\0\0\0\0\0\0\0\0\0\0\0\0";
+
+const STATE_OF_PUT: &[u8] =
+    b"\x01\0\0\0\0\0\0\0\x34\x03\0\0\0\0\0\0\0\x01\0\0\0\0\0\0\0\x02\0\0\0\0\0\0\0\x01\x01\0\0\0\0\0\0\0\x01a\0\0\0\0\0\0\0\x01b\0\0\0\0\0\0\0\0";
 
 const EMPTY: &[u8] = b"";
 
@@ -60,16 +74,20 @@ fn holds(alloc: Global, disk: &MemDisk, family: Family, pieces: &[&[u8]]) -> Res
 
 // Whether the files are those of the opening alone.
 fn holds_opening(alloc: Global, disk: &MemDisk) -> Result<bool, Fail> {
-    Ok(holds(alloc, disk, Family::Log, &[LOG_OF_NOOP])?
-        && holds(alloc, disk, Family::Meta, &[META])?
-        && holds(alloc, disk, Family::State, &[STATE_OF_NOOP])?)
+    Ok(
+        holds(alloc, disk, Family::Log, &[LOG_OF_NOOP])?
+            && holds(alloc, disk, Family::Meta, &[META])?
+            && holds(alloc, disk, Family::State, &[STATE_OF_NOOP])?,
+    )
 }
 
 // Whether the files are those of the opening and the put.
 fn holds_put(alloc: Global, disk: &MemDisk) -> Result<bool, Fail> {
-    Ok(holds(alloc, disk, Family::Log, &[LOG_OF_NOOP, LOG_OF_PUT])?
-        && holds(alloc, disk, Family::Meta, &[META])?
-        && holds(alloc, disk, Family::State, &[STATE_OF_NOOP, STATE_OF_PUT])?)
+    Ok(
+        holds(alloc, disk, Family::Log, &[LOG_OF_NOOP, LOG_OF_PUT])?
+            && holds(alloc, disk, Family::Meta, &[META])?
+            && holds(alloc, disk, Family::State, &[STATE_OF_NOOP, STATE_OF_PUT])?,
+    )
 }
 
 #[test]
@@ -135,7 +153,10 @@ fn no_disk_call(rt: HostRuntime) -> Result<(), Fail> {
     let mut disk = MemDisk::new(alloc);
     disk.fuse(0);
     let mut link = link_of(alloc, &[PUT, READ])?;
-    assert_eq!(rt; run(alloc, &mut disk, &mut link)?, Err(Error::StorageIoError));
+    assert_eq!(rt;
+        run(alloc, &mut disk, &mut link)?,
+        Err(Error::StorageIoError)
+    );
     assert_eq!(rt; link.sent(), EMPTY);
     let log = Place {
         family: Family::Log,
@@ -151,7 +172,10 @@ fn not_built(rt: HostRuntime) -> Result<(), Fail> {
     let mut disk = MemDisk::new(alloc);
     let mut link = link_of(alloc, &[PUT_WITH_TTL, SCAN])?;
     assert_eq!(rt; run(alloc, &mut disk, &mut link)?, Ok(()));
-    assert_eq!(rt; link.sent(), joined(alloc, &[NOT_BUILT, NOT_BUILT])?.as_slice());
+    assert_eq!(rt;
+        link.sent(),
+        joined(alloc, &[NOT_BUILT, NOT_BUILT])?.as_slice()
+    );
     assert!(rt; holds_opening(alloc, &disk)?);
     Ok(())
 }
@@ -183,7 +207,10 @@ fn syncs(rt: HostRuntime) -> Result<(), Fail> {
         (&[PUT, READ, SCAN, READ], 4),
     ];
     let mut opening = MemDisk::new(alloc);
-    assert_eq!(rt; run(alloc, &mut opening, &mut link_of(alloc, &[])?)?, Ok(()));
+    assert_eq!(rt;
+        run(alloc, &mut opening, &mut link_of(alloc, &[])?)?,
+        Ok(())
+    );
     for (input, more) in cases {
         let mut disk = MemDisk::new(alloc);
         assert_eq!(rt; run(alloc, &mut disk, &mut link_of(alloc, input)?)?, Ok(()));

@@ -37,7 +37,7 @@ pub meta_own : (slot : Place) (list : List (List ℕ)) (payload : List ℕ) (ima
     → OldOrNew state_held images from to was (Some state)
 meta_own slot list payload images from to was state family gives word fits adds =
     let now : hard_state_from None (placed 0 (list ++ payload ∷ [])) ≡ Ok (Some state) =
-        ap (λ (p : List ℕ). hard_state_from None (placed 0 (list ++ p ∷ []))) word ∙ hard_grows list was state gives fits in
+    ap (λ (p : List ℕ). hard_state_from None (placed 0 (list ++ p ∷ []))) word ∙ hard_grows list was state gives fits in
     adds_meaning state_held slot list payload images from to was (Some state)
     (λ files h. ap ok (has_meaning meta_family (hard_state_from None) slot list files family h ∙ gives))
     (λ files h. ap ok (has_meaning meta_family (hard_state_from None) slot (list ++ payload ∷ []) files family h ∙ now)) adds

@@ -44,11 +44,7 @@ pub(crate) struct Loaded {
 }
 
 // Loads a family's gate file and reads its payloads, with all of the disk's files as they read.
-pub(crate) fn load<D: Disk>(
-    alloc: Global,
-    family: Family,
-    disk: &mut D,
-) -> Result<Loaded, Error>
+pub(crate) fn load<D: Disk>(alloc: Global, family: Family, disk: &mut D) -> Result<Loaded, Error>
     ensures disk { DiskGoesOn D.kind D.moment D.images D.faults disk.old disk.new }
     ensures images { IsTrue (D.kind disk.old).tells → NoNewImages (D.images disk.old) (D.images disk.new) (D.moment disk.old) (D.moment disk.new) }
     ensures spares { IsTrue (D.kind disk.old).tells → SparesAll (D.content disk.old) (D.content disk.new) }

@@ -10,9 +10,9 @@ ghost use Rattle.den_store.specs.Folding.{IsUnread};
 ghost use Rattle.den_store.specs.Opening.{IsSettled};
 
 use crate::LogStore;
+use crate::family::{file_number, load, refusal};
 use crate::held_log::HeldLog;
 use crate::replay::replay_log;
-use crate::family::{file_number, load, refusal};
 use den_codec::{Entry, Error, LogId, Rows};
 use den_disk::{Disk, Family};
 use den_gate::GateFile;

@@ -21,6 +21,8 @@ returns-else-floor-index c = not_purged (log_of c.args.self.now) c.args.index c.
 
 pub invariant_of-self : goal.invariant_of-self
 invariant_of-self c =
-    record { order = purged_order (log_of c.args.self.now) c.args.index c.args.term _ c.args.self.now.order
-    (c.drop-drain.ensures.items ∙ c.drain.ensures.kept ∙ ap (λ (l : List LogEntry). drop c.count_to-gone.result l) (sym c.as_slice.ensures.value)
-    ∙ c.count_to-gone.ensures.rest ∙ ap (λ (l : List LogEntry). above c.args.index l) c.as_slice.ensures.value) }
+    record {
+      order = purged_order (log_of c.args.self.now) c.args.index c.args.term _ c.args.self.now.order
+          (c.drop-drain.ensures.items ∙ c.drain.ensures.kept ∙ ap (λ (l : List LogEntry). drop c.count_to-gone.result l) (sym c.as_slice.ensures.value)
+          ∙ c.count_to-gone.ensures.rest ∙ ap (λ (l : List LogEntry). above c.args.index l) c.as_slice.ensures.value);
+    }

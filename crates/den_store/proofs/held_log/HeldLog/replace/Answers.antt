@@ -15,7 +15,9 @@ pub invariant_of-self : goal.invariant_of-self
 invariant_of-self c =
     let new = c.args.entries.items in
     let cut : c.truncate.new.self.items ≡ below c.args.from c.args.self.now.entries.items =
-        c.truncate.ensures.items ∙ ap (λ (l : List LogEntry). take c.count_below-kept.result l) (sym c.as_slice.ensures.value) ∙ c.count_below-kept.ensures.front ∙ ap (λ (l : List LogEntry). below c.args.from l) c.as_slice.ensures.value in
-    record { order = replaced_order (log_of c.args.self.now) c.args.from new _ c.args.self.now.order c.requires.rise c.requires.begin
-    (c.append-appended.ensures.items ∙ cond-true (is_ok c.append-appended.result) (c.truncate.new.self.items ++ new) c.truncate.new.self.items (sym c.is_ok.ensures.value ∙ c.if-prove.false)
-    ∙ ap (λ (l : List LogEntry). l ++ new) cut) }
+    c.truncate.ensures.items ∙ ap (λ (l : List LogEntry). take c.count_below-kept.result l) (sym c.as_slice.ensures.value) ∙ c.count_below-kept.ensures.front ∙ ap (λ (l : List LogEntry). below c.args.from l) c.as_slice.ensures.value in
+    record {
+      order = replaced_order (log_of c.args.self.now) c.args.from new _ c.args.self.now.order c.requires.rise c.requires.begin
+          (c.append-appended.ensures.items ∙ cond-true (is_ok c.append-appended.result) (c.truncate.new.self.items ++ new) c.truncate.new.self.items (sym c.is_ok.ensures.value ∙ c.if-prove.false)
+          ∙ ap (λ (l : List LogEntry). l ++ new) cut);
+    }

@@ -12,5 +12,7 @@ count_below-kept-requires c =
 
 pub invariant_of-self : goal.invariant_of-self
 invariant_of-self c =
-    record { order = truncated_order (log_of c.args.self.now) c.args.from _ c.args.self.now.order
-    (c.truncate.ensures.items ∙ ap (λ (l : List LogEntry). take c.count_below-kept.result l) (sym c.as_slice.ensures.value) ∙ c.count_below-kept.ensures.front ∙ ap (λ (l : List LogEntry). below c.args.from l) c.as_slice.ensures.value) }
+    record {
+      order = truncated_order (log_of c.args.self.now) c.args.from _ c.args.self.now.order
+          (c.truncate.ensures.items ∙ ap (λ (l : List LogEntry). take c.count_below-kept.result l) (sym c.as_slice.ensures.value) ∙ c.count_below-kept.ensures.front ∙ ap (λ (l : List LogEntry). below c.args.from l) c.as_slice.ensures.value);
+    }

@@ -30,9 +30,9 @@ returns-in_err-held-clause-refused g c =
     handed_on (IsUnread rose Corrupt) c.in_err-held.field-0.0 c.from_residual-in_err-held.result c.from_residual-in_err-held.ensures.1
     (unread_weaker rose _ Corrupt c.in_err-held.field-0.0
     (λ place offset h tells.
-        let is = c.in_ok-loaded.ensures.loaded tells in
-        let small : end_from 0 ps < 2 ^ 64 = subst (λ (xs : List (List ℕ)). end_from 0 xs < 2 ^ 64) (sym c.as_slice.ensures) (loaded_small log_family l old new is) in (
-          h.0 ∙ c.file_number-place.ensures ∙ ap (λ (p : Part). place_number (record { family = log_family; part = p })) (c.part.ensures ∙ ap (λ (p : Place). p.part) is.slot),
-          loaded_meaning log_family (log_from empty_log) l old new is (c.load.ensures.spares tells) ∙ ap (λ (xs : List (List ℕ)). log_from empty_log (placed 0 xs)) (sym c.as_slice.ensures) ∙ h.1 small,
-        ))
+    let is = c.in_ok-loaded.ensures.loaded tells in
+    let small : end_from 0 ps < 2 ^ 64 = subst (λ (xs : List (List ℕ)). end_from 0 xs < 2 ^ 64) (sym c.as_slice.ensures) (loaded_small log_family l old new is) in (
+      h.0 ∙ c.file_number-place.ensures ∙ ap (λ (p : Part). place_number (record { family = log_family; part = p })) (c.part.ensures ∙ ap (λ (p : Place). p.part) is.slot),
+      loaded_meaning log_family (log_from empty_log) l old new is (c.load.ensures.spares tells) ∙ ap (λ (xs : List (List ℕ)). log_from empty_log (placed 0 xs)) (sym c.as_slice.ensures) ∙ h.1 small,
+    ))
     c.in_err-held.ensures.refused)

@@ -46,7 +46,7 @@ returns-in-Ok-clause-own g c = λ tells.
     let es = c.args.entries.now in
     let list = payloads c.args.self.now.gate (g.D.Disk.content c.args.disk.now).reading in
     let a : Appends l es list c.as_slice.result.now =
-        (r.gives, c.as_slice.ensures.value ∙ c.in_ok-prepared.ensures.word, rise_from_begins (floor l + 1) es c.requires.rise, c.in_ok-prepared.ensures.fits) in
+    (r.gives, c.as_slice.ensures.value ∙ c.in_ok-prepared.ensures.word, rise_from_begins (floor l + 1) es c.requires.rise, c.in_ok-prepared.ensures.fits) in
     log_own c.args.self.now.gate.slot list c.as_slice.result.now _ _ _ l es r.family a (c.append.ensures.family tells r.current)
 
 pub returns-in-Err-clause-own : goal.returns-in-Err-clause-own
@@ -56,7 +56,7 @@ returns-in-Err-clause-own g c = λ tells.
     let es = c.args.entries.now in
     let list = payloads c.args.self.now.gate (g.D.Disk.content c.args.disk.now).reading in
     let a : Appends l es list c.as_slice.result.now =
-        (r.gives, c.as_slice.ensures.value ∙ c.in_ok-prepared.ensures.word, rise_from_begins (floor l + 1) es c.requires.rise, c.in_ok-prepared.ensures.fits) in
+    (r.gives, c.as_slice.ensures.value ∙ c.in_ok-prepared.ensures.word, rise_from_begins (floor l + 1) es c.requires.rise, c.in_ok-prepared.ensures.fits) in
     log_own c.args.self.now.gate.slot list c.as_slice.result.now _ _ _ l es r.family a (c.append.ensures.family tells r.current)
 
 pub returns-in-Ok-clause-rests : goal.returns-in-Ok-clause-rests
@@ -66,12 +66,12 @@ returns-in-Ok-clause-rests g c = λ tells.
     let es = c.args.entries.now in
     let list = payloads c.args.self.now.gate (g.D.Disk.content c.args.disk.now).reading in
     let a : Appends l es list c.as_slice.result.now =
-        (r.gives, c.as_slice.ensures.value ∙ c.in_ok-prepared.ensures.word, rise_from_begins (floor l + 1) es c.requires.rise, c.in_ok-prepared.ensures.fits) in
+    (r.gives, c.as_slice.ensures.value ∙ c.in_ok-prepared.ensures.word, rise_from_begins (floor l + 1) es c.requires.rise, c.in_ok-prepared.ensures.fits) in
     let from = c.index-from.result in
     let same : log_of c.replace.new.self ≡ changed l (Append es) =
-        c.replace.ensures ∙ ap (λ (m : Log). replaced m from c.in_ok-prepared.prepared.copies.items) c.prepare.ensures.log
-        ∙ ap (λ (xs : List LogEntry). replaced l from xs) c.in_ok-prepared.ensures.copies
-        ∙ append_is l es c.in-Some.first.now from c.in-Some.ensures.item.3.0 (c.in-Some.ensures.item.3.1 c.in-Some.first.now) c.index-from.ensures.is in
+    c.replace.ensures ∙ ap (λ (m : Log). replaced m from c.in_ok-prepared.prepared.copies.items) c.prepare.ensures.log
+    ∙ ap (λ (xs : List LogEntry). replaced l from xs) c.in_ok-prepared.ensures.copies
+    ∙ append_is l es c.in-Some.first.now from c.in-Some.ensures.item.3.0 (c.in-Some.ensures.item.3.1 c.in-Some.first.now) c.index-from.ensures.is in
     record {
       family = ap (λ (p : Place). p.family) c.append.ensures.slot ∙ r.family;
       at_rest = c.in-Ok.ensures.at_rest tells;
