@@ -1,6 +1,5 @@
-use Rattle.std.proofs.Common.{inl, inr, ap, ◌∙◌}
-use Rattle.std.proofs.lemmas.Result.{IfErr-weaker}
-use Rattle.den_core.proofs.CatchUp.{refused_here, left_here, free_here, none_some}
+use Rattle.std.proofs.Common.{inl, ap, ◌∙◌}
+use Rattle.den_core.proofs.CatchUp.{refused_here, left_here, free_here, none_some, refused_later}
 use Rattle.den_core.proofs.Quiet.{stays}
 use Rattle.den_core.proofs.Spared.{gives_now, all_give, on_ok_just}
 use Rattle.den_core.proofs.opening.recover.Goals as goal
@@ -54,7 +53,7 @@ pub returns-in-None-clause-refused : goal.returns-in-None-clause-refused
 returns-in-None-clause-refused g c =
     let none = refused_here _ (g.G.LogStore.log c.args.log) (g.T.MetaStore.hard_state c.args.meta) (g.M.StateMachine.map c.args.state) _ _ _
     (ap (λ i. i.index) c.last_applied-mark.ensures) (c.as_slice-entries.ensures ∙ c.in_ok-found.ensures.entries) c.refusal.ensures ∙ c.in-None.is in
-    IfErr-weaker c.catch_up.result _ _ (λ e is. inr (inr (none, is))) c.catch_up.ensures.refused
+    refused_later c.catch_up.result _ _ _ none c.catch_up.ensures.refused
 
 pub returns-in-None-clause-untouched : goal.returns-in-None-clause-untouched
 returns-in-None-clause-untouched g c = λ some.
