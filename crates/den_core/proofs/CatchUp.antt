@@ -217,3 +217,17 @@ pub refused_later : {T : Type 0} (r : Result T Error) (rose : Type 0) (most : �
     → IfErr r (λ e. IsRefusal rose most e) → IfErr r (λ e. IsOpeningFailure rose most refusal e)
 refused_later (Ok x) rose most refusal none is = tt
 refused_later (Err e) rose most refusal none is = inr (inr (none, is))
+
+-- the term and the index of what they stand for
+pub ends_here : (l : Log) (h : Option HardState) (s : MapState) (es : List LogEntry) (d : Durable) → IsLeft l s es → durable l h s ≡ Some d → (d.term ≡ term_of h) × (d.last_index ≡ last_of s.mark.index es)
+ends_here l h s es d left is =
+    let both_are : Some d ≡ Some (applied_all (durable_of h s) es) = sym is ∙ left_is l s es left h in
+    let same : d ≡ applied_all (durable_of h s) es = cc in
+    let ends = ends_of (durable_of h s) es in
+    (ap (λ (x : Durable). x.term) same ∙ ends.0, ap (λ (x : Durable). x.last_index) same ∙ ends.1)
+
+pub room_here : (l : Log) (h : Option HardState) (s : MapState) (mark : ℕ) (es : List LogEntry) (d : Durable) → mark ≡ s.mark.index → IsLeft l s es
+    → (term_of h < 2 ^ 64 - 1) × (last_of mark es < 2 ^ 64 - 1) → durable l h s ≡ Some d → (d.term < 2 ^ 64 - 1) × (d.last_index < 2 ^ 64 - 1)
+room_here l h s mark es d is_mark left room is =
+    let ends = ends_here l h s es d left is in
+    (subst (λ n. n < 2 ^ 64 - 1) (sym ends.0) room.0, subst (λ n. n < 2 ^ 64 - 1) (ap (λ n. last_of n es) is_mark ∙ sym ends.1) room.1)
