@@ -1,6 +1,6 @@
 //! Why a call ends early.
 ghost use Rattle.std.specs.Prelude.{◌≡◌};
-ghost use Rattle.den_codec.specs.declared.error.Error.TheVariants.{OutOfMemory};
+ghost use Rattle.den_codec.specs.declared.error.Error.TheVariants.{OutOfMemory, StorageIoError, LinkFault};
 
 use std::alloc::{AllocError, AllocFailed};
 use thiserror::Error;
@@ -52,5 +52,21 @@ impl<T: Drop> From<AllocFailed<T>> for Error {
 
     fn from(_: AllocFailed<T>) -> Self {
         Error::OutOfMemory
+    }
+}
+
+impl From<den_disk::LinkFault> for Error {
+    ghost from_gives = { λ _ e. e ≡ LinkFault };
+
+    fn from(_: den_disk::LinkFault) -> Self {
+        Error::LinkFault
+    }
+}
+
+impl From<den_disk::DiskFault> for Error {
+    ghost from_gives = { λ _ e. e ≡ StorageIoError };
+
+    fn from(_: den_disk::DiskFault) -> Self {
+        Error::StorageIoError
     }
 }

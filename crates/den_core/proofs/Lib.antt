@@ -3,3 +3,12 @@ pub mod Durables
 pub mod Quiet
 pub mod Spared
 pub mod Steps
+pub mod Cutting
+pub mod Early
+pub mod FirstFrame
+pub mod FramesSoFar
+pub mod GoesOn
+pub mod Lists
+pub mod Beginning
+pub mod Sending
+pub mod Stretch

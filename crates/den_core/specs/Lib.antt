@@ -1,5 +1,8 @@
 pub mod Answers
 pub mod Asked
+pub mod Early
+pub mod Input
 pub mod Joined
 pub mod Opening
 pub mod Parts
+pub mod Refusals

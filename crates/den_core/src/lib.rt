@@ -3,9 +3,13 @@
 
 mod ask;
 mod engine;
+mod frame;
 mod opening;
+mod server;
 mod stepper;
 
 pub use engine::Engine;
+pub use frame::FrameReader;
 pub use opening::recover;
+pub use server::{early_is_refused, run_from, serve};
 pub use stepper::{StepOut, Stepper};

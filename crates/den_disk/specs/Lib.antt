@@ -5,3 +5,5 @@ pub mod Goes
 pub mod Memory
 pub mod Pieces
 pub mod Place
+pub mod Readings
+pub mod Spoil

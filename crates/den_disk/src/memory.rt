@@ -1,12 +1,14 @@
 // A disk in memory. It keeps a record of the calls that changed it, with what each took away, so what a crash at
 // an earlier moment may have left is known from its fields. Each call makes two moments.
-ghost use Rattle.std.specs.Prelude.{◌≡◌, ◌≤◌, ◌<◌, ◌+◌, ◌-◌, ◌*◌, ◌^◌, ◌++◌, [], ◌∷◌, true, take, drop, length, replicate, OnOk, OnErr, IsErr};
+ghost use Rattle.std.specs.Prelude.{◌≡◌, ◌≤◌, ◌<◌, ◌+◌, ◌-◌, ◌*◌, ◌^◌, ◌++◌, [], ◌∷◌, min, true, take, drop, length, replicate, IsTrue, OnOk, OnErr, IsErr, Contains};
 ghost use Rattle.den_disk.specs.declared.place.Place.{Place};
-ghost use Rattle.den_disk.specs.Files.{put_at, fit};
-ghost use Rattle.den_disk.specs.Memory.{content_now, images_at, images_end};
+ghost use Rattle.den_disk.specs.Files.{IsImage, put_at, fit};
+ghost use Rattle.den_disk.specs.Memory.{content_now, images_at, images_end, calls_made, syncs_of};
 ghost use Rattle.den_disk.specs.Crash.{Stays};
 ghost use Rattle.den_disk.specs.Goes.{HasCause, Rose};
 
+use crate::faults::count_fault;
+use crate::spoil::spoil;
 use crate::{Disk, DiskFault, Place};
 use std::alloc::{AllocError, Global};
 
@@ -35,6 +37,15 @@ pub struct MemDisk {
     files: [Vec<u8>; 12],
     steps: Vec<Step>,
     faults: u64,
+    plan: Plan,
+}
+
+// Which calls are to fail, and how many were made.
+#[derive(Drop)]
+struct Plan {
+    calls: u64,
+    since: u64,
+    failing: Vec<u64>,
     fuse: Option<u64>,
 }
 
@@ -44,6 +55,8 @@ impl MemDisk {
         ensures empty { (q : Place) → (⟦<MemDisk as Disk>⟧.content result).reading q ≡ [] }
         ensures pending { (⟦<MemDisk as Disk>⟧.content result).pending ≡ [] }
         ensures moment { ⟦<MemDisk as Disk>⟧.moment result ≡ 0 }
+        ensures faults { ⟦<MemDisk as Disk>⟧.faults result ≡ 0 }
+        ensures calls { calls_made result ≡ 0 }
     {
         MemDisk {
             alloc,
@@ -63,15 +76,116 @@ impl MemDisk {
             ],
             steps: Vec::new(alloc),
             faults: 0,
-            fuse: None,
+            plan: Plan {
+                calls: 0,
+                since: 0,
+                failing: Vec::new(alloc),
+                fuse: None,
+            },
         }
+    }
+
+    /// Puts a whole file. The disk is then as a new one with these files: its record is empty.
+    pub fn set(&mut self, place: Place, bytes: &[u8]) -> Result<(), AllocError>
+        ensures here { OnOk result ((⟦<MemDisk as Disk>⟧.content self.new).reading place ≡ bytes.now) }
+        ensures elsewhere { OnOk result ((q : Place) → (q ≡ place → ⊥) → (⟦<MemDisk as Disk>⟧.content self.new).reading q ≡ (⟦<MemDisk as Disk>⟧.content self.old).reading q) }
+        ensures pending { OnOk result ((⟦<MemDisk as Disk>⟧.content self.new).pending ≡ []) }
+        ensures moment { OnOk result (⟦<MemDisk as Disk>⟧.moment self.new ≡ 0) }
+        ensures err { OnErr result (Stays ⟦<MemDisk as Disk>⟧.content ⟦<MemDisk as Disk>⟧.moment ⟦<MemDisk as Disk>⟧.images self.old self.new) }
+        ensures faults { ⟦<MemDisk as Disk>⟧.faults self.new ≡ ⟦<MemDisk as Disk>⟧.faults self.old }
+        ensures calls { calls_made self.new ≡ calls_made self.old }
+    {
+        let file = bytes.to_vec(self.alloc)?;
+        let number = place.number();
+        self.files[number] = file;
+        self.steps.clear();
+        Ok(())
+    }
+
+    /// What is read at a place.
+    pub fn get(&self, place: Place) -> &[u8]
+        ensures { result.now ≡ (⟦<MemDisk as Disk>⟧.content self.now).reading place }
+    {
+        let number = place.number();
+        self.files[number].as_slice()
     }
 
     /// So many calls more pass, and then every call fails.
     pub fn fuse(&mut self, calls: u64)
-        ensures { Stays ⟦<MemDisk as Disk>⟧.content ⟦<MemDisk as Disk>⟧.moment ⟦<MemDisk as Disk>⟧.images self.old self.new }
+        ensures stays { Stays ⟦<MemDisk as Disk>⟧.content ⟦<MemDisk as Disk>⟧.moment ⟦<MemDisk as Disk>⟧.images self.old self.new }
+        ensures faults { ⟦<MemDisk as Disk>⟧.faults self.new ≡ ⟦<MemDisk as Disk>⟧.faults self.old }
+        ensures calls { calls_made self.new ≡ calls_made self.old }
     {
-        self.fuse = Some(calls);
+        self.plan.fuse = Some(calls);
+    }
+
+    /// The calls with these numbers fail, counted from 1 over the calls made after this.
+    pub fn fail_at(&mut self, calls: Vec<u64>)
+        ensures stays { Stays ⟦<MemDisk as Disk>⟧.content ⟦<MemDisk as Disk>⟧.moment ⟦<MemDisk as Disk>⟧.images self.old self.new }
+        ensures faults { ⟦<MemDisk as Disk>⟧.faults self.new ≡ ⟦<MemDisk as Disk>⟧.faults self.old }
+        ensures calls { calls_made self.new ≡ calls_made self.old }
+    {
+        self.plan.since = 0;
+        self.plan.failing = calls;
+    }
+
+    /// Makes the disk what a crash leaves of it, with no more faults to come. Choice 0 takes back each write since the last sync, 1
+    /// keeps all, and any other puts numbers drawn from it into what they wrote. The record is then empty.
+    pub fn crash(&mut self, choice: u64)
+        ensures image { IsImage (⟦<MemDisk as Disk>⟧.content self.old) (⟦<MemDisk as Disk>⟧.content self.new).reading }
+        ensures kept { choice ≡ 1 → (q : Place) → (⟦<MemDisk as Disk>⟧.content self.new).reading q ≡ (⟦<MemDisk as Disk>⟧.content self.old).reading q }
+        ensures pending { (⟦<MemDisk as Disk>⟧.content self.new).pending ≡ [] }
+        ensures moment { ⟦<MemDisk as Disk>⟧.moment self.new ≡ 0 }
+        ensures faults { ⟦<MemDisk as Disk>⟧.faults self.new ≡ ⟦<MemDisk as Disk>⟧.faults self.old }
+        ensures calls { calls_made self.new ≡ calls_made self.old }
+    {
+        if choice != 1 {
+            spoil(&mut self.files, self.steps.as_slice(), choice);
+        }
+        self.steps = Vec::new(self.alloc);
+        self.plan.failing.clear();
+        self.plan.fuse = None;
+    }
+
+    /// How many calls were made that read or changed the files, those that failed too.
+    pub fn calls(&self) -> u64
+        ensures { result ≡ calls_made self.now }
+    {
+        self.plan.calls
+    }
+
+    /// How many syncs succeeded since the disk was new, a file was put, or a crash.
+    pub fn syncs(&self) -> u64
+        ensures { result ≡ syncs_of self.now.steps.items }
+    {
+        self.steps
+            .iter()
+            .filter(|step| matches!(step, Step::Sync))
+            .count() as u64
+    }
+}
+
+impl Plan {
+    // Counts a call, and says whether it is to fail.
+    fn next_fails(&mut self) -> bool
+        ensures calls { self.new.calls ≡ min (self.old.calls + 1) (2 ^ 64 - 1) }
+        ensures listed { Contains self.new.failing.items self.new.since → IsTrue result }
+        ensures since { self.new.since ≡ min (self.old.since + 1) (2 ^ 64 - 1) }
+        ensures failing { self.new.failing ≡ self.old.failing }
+    {
+        self.calls = self.calls.saturating_add(1);
+        self.since = self.since.saturating_add(1);
+        if self.failing.contains(&self.since) {
+            return true;
+        }
+        match self.fuse {
+            None => false,
+            Some(0) => true,
+            Some(left) => {
+                self.fuse = Some(left - 1);
+                false
+            }
+        }
     }
 }
 
@@ -80,22 +194,18 @@ fn count(faults: &mut u64) -> DiskFault
     ensures later { faults.old ≤ faults.new }
     ensures rose { Rose faults.old faults.new }
 {
-    *faults = faults.saturating_add(1);
+    count_fault(faults);
     DiskFault
 }
 
 // Whether a call passes.
-fn pass(fuse: &mut Option<u64>, faults: &mut u64) -> Result<(), DiskFault>
+fn pass(plan: &mut Plan, faults: &mut u64) -> Result<(), DiskFault>
     ensures { HasCause faults.old faults.new (IsErr result) }
 {
-    match *fuse {
-        None => Ok(()),
-        Some(0) => Err(count(faults)),
-        Some(calls) => {
-            *fuse = Some(calls - 1);
-            Ok(())
-        }
+    if plan.next_fails() {
+        return Err(count(faults));
     }
+    Ok(())
 }
 
 // Fills the buffer from a file.
@@ -192,7 +302,7 @@ impl Disk for MemDisk {
     ghost images_now = { λ m files tells. images_end m.files m.steps.items files };
 
     fn len(&mut self, place: Place) -> Result<u64, DiskFault> {
-        pass(&mut self.fuse, &mut self.faults)?;
+        pass(&mut self.plan, &mut self.faults)?;
         let number = place.number();
         let len = self.files[number].len() as u64;
         if len > LIMIT {
@@ -202,7 +312,7 @@ impl Disk for MemDisk {
     }
 
     fn read_at(&mut self, place: Place, at: u64, buffer: &mut [u8]) -> Result<(), DiskFault> {
-        pass(&mut self.fuse, &mut self.faults)?;
+        pass(&mut self.plan, &mut self.faults)?;
         let number = place.number();
         let file = self.files[number].as_slice();
         copy_out(file, at as usize, buffer);
@@ -210,7 +320,7 @@ impl Disk for MemDisk {
     }
 
     fn write_at(&mut self, place: Place, at: u64, bytes: &[u8]) -> Result<(), DiskFault> {
-        pass(&mut self.fuse, &mut self.faults)?;
+        pass(&mut self.plan, &mut self.faults)?;
         let number = place.number();
         match overwrite(
             self.alloc,
@@ -226,7 +336,7 @@ impl Disk for MemDisk {
     }
 
     fn resize(&mut self, place: Place, len: u64) -> Result<(), DiskFault> {
-        pass(&mut self.fuse, &mut self.faults)?;
+        pass(&mut self.plan, &mut self.faults)?;
         let number = place.number();
         match refit(
             self.alloc,
@@ -241,7 +351,7 @@ impl Disk for MemDisk {
     }
 
     fn sync(&mut self) -> Result<(), DiskFault> {
-        pass(&mut self.fuse, &mut self.faults)?;
+        pass(&mut self.plan, &mut self.faults)?;
         match note_sync(&mut self.steps) {
             Ok(()) => Ok(()),
             Err(_) => Err(count(&mut self.faults)),
@@ -254,5 +364,103 @@ impl Disk for MemDisk {
 
     fn moment(&self) -> u64 {
         2 * self.steps.len() as u64
+    }
+}
+
+#[cfg(test)]
+mod tests {
+    use super::*;
+    use crate::{Family, Part};
+    use std::test::Fail;
+
+    const LOG: Place = Place {
+        family: Family::Log,
+        part: Part::A,
+    };
+
+    const META: Place = Place {
+        family: Family::Meta,
+        part: Part::Head,
+    };
+
+    #[test]
+    fn keeps_what_is_put(rt: HostRuntime) -> Result<(), Fail> {
+        let mut disk = MemDisk::new(rt.alloc());
+        disk.set(LOG, b"abc")?;
+        disk.set(META, b"d")?;
+        assert_eq!(rt; disk.get(LOG), b"abc".as_slice());
+        assert_eq!(rt; disk.get(META), b"d".as_slice());
+        disk.write_at(LOG, 1, b"xy")?;
+        disk.sync()?;
+        assert_eq!(rt; disk.get(LOG), b"axy".as_slice());
+        assert_eq!(rt; (disk.moment(), disk.calls(), disk.syncs()), (4, 2, 1));
+        disk.set(META, b"")?;
+        assert_eq!(rt; (disk.moment(), disk.calls(), disk.syncs()), (0, 2, 0));
+        Ok(())
+    }
+
+    #[test]
+    fn reads_and_resizes(rt: HostRuntime) -> Result<(), Fail> {
+        let mut disk = MemDisk::new(rt.alloc());
+        disk.set(META, b"abc")?;
+        let mut buffer = [0; 2];
+        disk.read_at(META, 1, &mut buffer)?;
+        assert_eq!(rt; buffer, *b"bc");
+        for (len, want) in [(5, b"abc\0\0".as_slice()), (1, b"a".as_slice())] {
+            disk.resize(META, len)?;
+            assert_eq!(rt; disk.len(META)?, len);
+            assert_eq!(rt; disk.get(META), want);
+        }
+        assert_eq!(rt; disk.limit(), 1 << 43);
+        Ok(())
+    }
+
+    #[test]
+    fn crashes(rt: HostRuntime) -> Result<(), Fail> {
+        let cases = [
+            (0, b"ab\0\0".as_slice()),
+            (1, b"aX\0\0".as_slice()),
+            (2, b"a\xc4\0\0".as_slice()),
+        ];
+        for (choice, want) in cases {
+            let mut disk = MemDisk::new(rt.alloc());
+            disk.set(LOG, b"abcdef")?;
+            disk.write_at(LOG, 1, b"XY")?;
+            disk.resize(LOG, 2)?;
+            disk.resize(LOG, 4)?;
+            disk.fuse(0);
+            disk.crash(choice);
+            assert_eq!(rt; disk.get(LOG), want, "at choice {choice}");
+            assert_eq!(rt; disk.sync(), Ok(()));
+        }
+        Ok(())
+    }
+
+    #[test]
+    fn keeps_what_was_synced(rt: HostRuntime) -> Result<(), Fail> {
+        let mut disk = MemDisk::new(rt.alloc());
+        disk.set(META, b"ab")?;
+        disk.write_at(META, 1, b"c")?;
+        disk.sync()?;
+        disk.crash(0);
+        assert_eq!(rt; disk.get(META), b"ac".as_slice());
+        Ok(())
+    }
+
+    #[test]
+    fn fails_where_it_is_told(rt: HostRuntime) -> Result<(), Fail> {
+        let mut disk = MemDisk::new(rt.alloc());
+        disk.sync()?;
+        let calls = [2, 4].to_vec(rt.alloc())?;
+        disk.fail_at(calls);
+        for passes in [true, false, true, false, true] {
+            assert_eq!(rt; disk.sync().is_ok(), passes);
+        }
+        disk.fuse(1);
+        for passes in [true, false, false] {
+            assert_eq!(rt; disk.len(LOG).is_ok(), passes);
+        }
+        assert_eq!(rt; (disk.calls(), disk.syncs(), disk.moment()), (9, 4, 8));
+        Ok(())
     }
 }

@@ -2,7 +2,16 @@ pub mod Numbers
 pub mod Cut
 pub mod Spells
 pub mod LogSpells
+pub mod Tagged
+pub mod RegionSpells
+pub mod StateSpells
+pub mod ReplySpells
+pub mod RoundTrips
 pub mod RequestSpells
+pub mod RequestWords
 pub mod Runs
 pub mod Order
+pub mod Rising
 pub mod Tail
+pub mod WorkedRuns
+pub mod WorkedImages

@@ -6,6 +6,7 @@ pub mod Step
 pub mod Spelling
 pub mod Words
 pub mod Reading
+pub mod ReplyReading
 pub mod Frames
 pub mod Plan
 pub mod Regions

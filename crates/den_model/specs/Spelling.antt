@@ -44,7 +44,7 @@ unfoldable pub u64_word : ℕ → List ℕ
 u64_word n = to_be_bytes w64 n
 
 -- two's complement
-abbrev pub i32_word : ℤ → List ℕ
+unfoldable pub i32_word : ℤ → List ℕ
 i32_word z = u32_word (cast_unsigned w32 z)
 
 -- the length, and so many bytes
@@ -78,7 +78,7 @@ abbrev pub log_region_word : LogRegion → List ℕ
 log_region_word (log.Append entries) = 1 ∷ list_word entry_word entries
 log_region_word (log.Truncate from) = 2 ∷ u64_word from
 log_region_word (log.Purge index term) = 3 ∷ u64_word index ++ u64_word term
-log_region_word (log.Replace from entries) = 4 ∷ u64_word from ++ list_word entry_word entries
+log_region_word (log.Replace r) = 4 ∷ u64_word r.from ++ list_word entry_word r.entries
 log_region_word log.Reset = 5 ∷ []
 
 abbrev pub vote_word : VotedFor → List ℕ

@@ -1,5 +1,5 @@
 -- One step of the system: what it becomes, what it replies, and which events it raises.
-use Rattle.std.specs.Prelude.{ℕ, ◌+◌, ◌-◌, ◌^◌, ◌==◌, ◌&&◌, ◌||◌, not, ℤ, pos, negsuc, Bool, true, false, List, [], ◌∷◌, ◌++◌, length, take, drop, max, map, Option, Some, None, nat_le, nat_eq, if◌then◌else◌, unwrap_or, is_some, filter, filter_map, option_map}
+use Rattle.std.specs.Prelude.{ℕ, ◌+◌, ◌-◌, ◌^◌, ◌==◌, ◌&&◌, ◌||◌, not, ℤ, pos, negsuc, Bool, true, false, List, [], ◌∷◌, ◌++◌, length, take, max, map, Option, Some, None, nat_le, nat_eq, if◌then◌else◌, unwrap_or, is_some, filter, filter_map, option_map}
 use Rattle.std.specs.Cmp.Lexicographic.{pointwise}
 use Rattle.std.specs.List.{starts_with, ends_with}
 use Rattle.den_model.specs.declared.command.Command.{Command}

@@ -1,30 +1,30 @@
 //! What the journal of the map records.
-use crate::Blob;
+use crate::{Blob, Positive};
 
 /// What an entry did to the map, or a cleanup at a moment. An expiry of 0 is none.
 #[derive(Debug, Drop, PartialEq, Eq)]
 pub enum JournalRecord {
     Noop {
-        index: u64,
+        index: Positive,
         term: u64,
     },
     Insert {
-        index: u64,
+        index: Positive,
         term: u64,
         key: Blob,
         value: Blob,
         expiry: u64,
     },
     Delete {
-        index: u64,
+        index: Positive,
         term: u64,
         key: Blob,
     },
     CasFailed {
-        index: u64,
+        index: Positive,
         term: u64,
     },
     Cleanup {
-        moment: u64,
+        moment: Positive,
     },
 }

@@ -1,6 +1,14 @@
 //! The log store and the store of the hard state.
 #![tactic(auto)]
 
+mod copies;
+mod family;
+mod held_log;
+mod log_store;
+mod meta_store;
+mod replay;
 mod stores;
 
+pub use log_store::FileLogStore;
+pub use meta_store::FileMetaStore;
 pub use stores::{LogStore, MetaStore};

@@ -1,0 +1,62 @@
+-- A run: the opening, and then the frames.
+use Rattle.std.proofs.Common.{◌≡◌, ℕ, ◌≤◌, List, [], ◌∷◌, ◌++◌, length, Bool, true, false, if◌then◌else◌, Option, refl, sym, ◌∙◌, ap, subst, arith}
+use Rattle.std.proofs.lemmas.List.{append-nil}
+use Rattle.den_disk.specs.Files.{Files}
+use Rattle.den_disk.specs.Goes.{Extends, added}
+use Rattle.den_model.specs.declared.request.Frame.{Frame}
+use Rattle.den_model.specs.Crash.{Survives, Stands, IsWhole, IsDone, IsServed}
+use Rattle.den_model.specs.Kv.{Durable, Kv}
+use Rattle.den_model.specs.Plan.{after, output, opening, turns, plan}
+use Rattle.den_model.specs.Step.{Step, Cleanup, moment_of}
+use Rattle.den_core.proofs.FramesSoFar.{turns_none}
+use Rattle.den_core.proofs.Lists.{added_is, added_none, added_twice, extends_by}
+use Rattle.den_core.proofs.Stretch.{goes_on, whole_twice}
+
+-- a cleanup sends nothing
+quiet_cleanup : (kv : Kv) (lease : Bool) (moment : ℕ) → output kv (if lease then Cleanup moment ∷ [] else []) ≡ []
+quiet_cleanup kv true moment = refl
+quiet_cleanup kv false moment = refl
+
+-- the opening sends nothing
+opening_quiet : (kv : Kv) (moment : ℕ) → output kv (opening kv moment) ≡ []
+opening_quiet kv moment = quiet_cleanup _ kv.running.setting.lease moment
+
+module _ (holds : Files → Option Durable) (kv : Kv) (all : List Frame) (images : ℕ → Files → Type 0) (from mid : ℕ) (reading moment : ℕ) (is_moment : moment ≡ moment_of reading)
+    (begun : Survives holds images from mid [] kv (opening kv moment)) where
+  -- the opening was begun
+  pub opens_only : (r0 r1 : List ℕ) (s0 : List (ℕ × ℕ)) → r1 ≡ r0 ++ reading ∷ [] → Survives holds images from mid (added s0 s0) kv (plan kv all (added r0 r1))
+  opens_only r0 r1 s0 read = subst (λ s. Survives holds images from mid s kv (plan kv all (added r0 r1))) (sym (added_none s0))
+      (subst (λ r. Survives holds images from mid [] kv (plan kv all r)) (sym (added_is r0 r1 (reading ∷ []) read))
+      (subst (λ m. Survives holds images from mid [] kv (opening kv m ++ turns (after kv (opening kv m)) all [])) is_moment
+      (subst (λ more. Survives holds images from mid [] kv (opening kv moment ++ more)) (sym (turns_none (after kv (opening kv moment)) all))
+      (subst (λ steps. Survives holds images from mid [] kv steps) (sym (append-nil (opening kv moment))) begun))))
+
+  -- the opening was made, and frames were begun: readings r0 at the start, r1 behind the opening, r2 at the end
+  module _ (later : ℕ → Files → Type 0) (to : ℕ) (opened : Kv) (r0 r1 r2 : List ℕ) (sent : List (ℕ × ℕ)) (low : from ≤ mid) (high : mid ≤ to) (past : (t : ℕ) (files : Files) → t ≤ mid → later t files → images t files)
+      (read : r1 ≡ r0 ++ reading ∷ []) (more : Extends r1 r2) (state : opened ≡ after kv (opening kv moment)) where
+    all_taken : added r0 r2 ≡ reading ∷ added r1 r2
+    all_taken = added_twice r0 r1 r2 (extends_by r0 r1 (reading ∷ []) read) more ∙ ap (λ l. l ++ added r1 r2) (added_is r0 r1 (reading ∷ []) read)
+
+    is_plan : opening kv moment ++ turns opened all (added r1 r2) ≡ plan kv all (added r0 r2)
+    is_plan = ap (λ k. opening kv moment ++ turns k all (added r1 r2)) state
+        ∙ ap (λ m. opening kv m ++ turns (after kv (opening kv m)) all (added r1 r2)) is_moment
+        ∙ ap (plan kv all) (sym all_taken)
+
+    whole_opening : IsWhole [] kv (opening kv moment) opened
+    whole_opening = record { state = state; bytes = sym (opening_quiet kv moment) }
+
+    pub runs : Survives holds later mid to sent opened (turns opened all (added r1 r2)) → Survives holds later from to sent kv (plan kv all (added r0 r2))
+    runs next = subst (λ steps. Survives holds later from to sent kv steps) is_plan
+        (goes_on holds images later from mid to [] sent kv opened (opening kv moment) (turns opened all (added r1 r2)) low high past begun whole_opening next)
+
+    pub runs_whole : (left : List ℕ) (new : Kv) → IsDone left (length (added r1 r2)) (length all) sent opened (turns opened all (added r1 r2)) new → Stands holds later to new.durable
+        → IsServed holds later to left (length (added r0 r2)) (length all) sent kv (plan kv all (added r0 r2))
+    runs_whole left new done stands =
+        let every : IsWhole sent kv (opening kv moment ++ turns opened all (added r1 r2)) new =
+        whole_twice holds [] sent kv opened new (opening kv moment) (turns opened all (added r1 r2)) whole_opening done.whole in
+        record {
+          at_end = done.at_end;
+          one_each = omega (arith, ap length all_taken, done.one_each);
+          output_sent = every.bytes ∙ ap (output kv) is_plan;
+          end_stands = subst (λ (k : Kv). Stands holds later to k.durable) (every.state ∙ ap (after kv) is_plan) stands;
+        }

@@ -1,0 +1,17 @@
+use Rattle.std.proofs.Common.{◌≡◌, ◌+◌, ◌++◌, ◌≤◌, length, IsTrue}
+use Rattle.den_disk.specs.Goes.{LinkGoesOn}
+use Rattle.den_core.proofs.frame.read_body.Given as goal
+
+abbrev pub invariant-loop-rest : goal.invariant-loop-rest
+invariant-loop-rest g l =
+    let L = g.L.Link in
+    record {
+      on : LinkGoesOn L.tells L.sent L.budget L.taken L.faults l.fn.link l.link;
+      quiet : IsTrue (L.tells l.fn.link) → L.sent l.link ≡ L.sent l.fn.link;
+      bytes : IsTrue (L.tells l.fn.link) → L.left l.fn.link ≡ l.body.items ++ L.left l.link;
+      size : IsTrue (L.tells l.fn.link) → length l.body.items + l.rest ≡ l.size;
+      within : l.rest ≤ l.size;
+    }
+
+abbrev pub decreases-loop-rest : goal.decreases-loop-rest
+decreases-loop-rest g l = l.rest

@@ -1,0 +1,76 @@
+use Rattle.std.proofs.Common.{◌≡◌, ◌∷◌, IsTrue, sym, ◌∙◌, ap, subst}
+use Rattle.den_disk.specs.Files.{Kind}
+use Rattle.den_model.specs.Crash.{Stands, Tells}
+use Rattle.den_model.specs.Frames.{frames}
+use Rattle.den_core.proofs.FramesSoFar.{begins, begun_over, served_over, done_over}
+use Rattle.den_core.proofs.GoesOn.{disk_same, disk_twice, link_same, link_twice, clock_same, clock_twice, clock_read, found_some, found_none}
+use Rattle.den_core.proofs.Stretch.{stands_now}
+use Rattle.den_core.proofs.server.serve.Goals as goal
+
+pub frames-init : goal.frames-init
+frames-init g c = record {
+  limit = c.new-reader.ensures;
+  disk = disk_same _ _ _ _ _;
+  link = link_same _ _ _ _ _ _;
+  clock = clock_same _ _ _;
+  ready = c.requires.ready;
+  rests = c.requires.rests;
+  so_far = λ told.
+      let disk = c.args.disk.now in
+      let s = c.args.stepper.now in
+      begins g.S.Stepper.holds _ _ _ (g.C.Clock.readings c.args.clock.now) (g.L.Link.sent c.args.link.now) _ (stands_now _ _ _ (g.D.Disk.content disk) _ (λ files. g.met.D.Disk.images_now disk files told.disk_tells)
+          (λ files. g.met.S.Stepper.rests_hold s (g.D.Disk.content disk) files c.requires.ready (c.requires.rests told.disk_tells)));
+}
+
+-- the input is at its end
+pub returns-in_default-clause-done : goal.returns-in_default-clause-done
+returns-in_default-clause-done g c = λ told.
+    let inv = c.frames.invariant in
+    let link_tells : IsTrue (g.L.Link.tells c.frames.link) = subst (λ b. IsTrue b) (sym inv.link.same) told.link_tells in
+    done_over g.S.Stepper.holds _ _ _ _ _ _ _ _ _ _ _ _ _ (inv.so_far told) (found_none _ _ _ _ c.in_default.is (c.in_ok-found.ensures.found link_tells)) (c.next.ensures.sent link_tells)
+
+-- a frame was begun
+pub returns-in_err-serve_frame-clause-survives : goal.returns-in_err-serve_frame-clause-survives
+returns-in_err-serve_frame-clause-survives g c = λ told.
+    let inv = c.frames.invariant in
+    let before : Tells (g.D.Disk.kind c.args.disk.now).tells (g.L.Link.tells c.args.link.now) (g.C.Clock.tells c.frames.clock) =
+    record { disk_tells = told.disk_tells; link_tells = told.link_tells; clock_tells = c.now.ensures.tells told.clock_tells } in
+    let link_tells : IsTrue (g.L.Link.tells c.frames.link) = subst (λ b. IsTrue b) (sym inv.link.same) told.link_tells in
+    let disk_tells : IsTrue (g.D.Disk.kind c.frames.disk).tells = subst (λ (k : Kind). IsTrue k.tells) (sym inv.disk.same) told.disk_tells in
+    let then_tells : IsTrue (g.L.Link.tells c.next.new.link) = subst (λ b. IsTrue b) (sym c.next.ensures.on.same) link_tells in
+    let on = c.serve_frame.ensures.disk.told disk_tells in
+    begun_over g.S.Stepper.holds _ _ _ _ _ _ _ _ _ _ _ _ _ _ _ _ _ _ _ _
+    (inv.disk.told told.disk_tells).later on.later on.past
+    (inv.clock.grows before.clock_tells) (c.now.ensures.told told.clock_tells) c.max-moment.ensures
+    (inv.link.grows told.link_tells) (c.next.ensures.sent link_tells) (c.serve_frame.ensures.link.grows then_tells)
+    (inv.so_far before) (found_some _ _ _ _ _ _ inv.limit c.in-Some.is (c.in_ok-found.ensures.found link_tells))
+    (c.serve_frame.ensures.survives disk_tells then_tells)
+
+-- and served
+pub frames-preserved : goal.frames-preserved
+frames-preserved g c =
+    let inv = c.frames.invariant in
+    record {
+      limit = c.next.ensures.limit ∙ inv.limit;
+      disk = disk_twice _ _ _ _ _ _ _ inv.disk c.serve_frame.ensures.disk;
+      link = link_twice _ _ _ _ _ _ _ _ (link_twice _ _ _ _ _ _ _ _ inv.link c.next.ensures.on) c.serve_frame.ensures.link;
+      clock = clock_twice _ _ _ _ _ inv.clock (clock_read _ _ _ _ c.now.result c.now.ensures.told c.now.ensures.tells);
+      ready = c.in_ok-serve_frame.ensures.ready;
+      rests = λ told. c.in_ok-serve_frame.ensures.rests (subst (λ (k : Kind). IsTrue k.tells) (sym inv.disk.same) told);
+      so_far = λ told.
+          let before : Tells (g.D.Disk.kind c.args.disk.now).tells (g.L.Link.tells c.args.link.now) (g.C.Clock.tells c.frames.clock) =
+          record { disk_tells = told.disk_tells; link_tells = told.link_tells; clock_tells = c.now.ensures.tells told.clock_tells } in
+          let link_tells : IsTrue (g.L.Link.tells c.frames.link) = subst (λ b. IsTrue b) (sym inv.link.same) told.link_tells in
+          let disk_tells : IsTrue (g.D.Disk.kind c.frames.disk).tells = subst (λ (k : Kind). IsTrue k.tells) (sym inv.disk.same) told.disk_tells in
+          let then_tells : IsTrue (g.L.Link.tells c.next.new.link) = subst (λ b. IsTrue b) (sym c.next.ensures.on.same) link_tells in
+          let on = c.serve_frame.ensures.disk.told disk_tells in
+          served_over g.S.Stepper.holds _ _ _ _ _ _ _ _ _ _ _ _ _ _ _ _ _ _ _ _
+          (inv.disk.told told.disk_tells).later on.later on.past
+          (inv.clock.grows before.clock_tells) (c.now.ensures.told told.clock_tells) c.max-moment.ensures
+          (inv.link.grows told.link_tells) (c.next.ensures.sent link_tells) (c.serve_frame.ensures.link.grows then_tells)
+          (inv.so_far before)
+          (found_some _ _ _ _ _ _ inv.limit c.in-Some.is (c.in_ok-found.ensures.found link_tells)
+          ∙ ap (λ left. c.in-Some.frame ∷ frames c.args.limit left) (sym (c.serve_frame.ensures.left then_tells)))
+          (c.serve_frame.ensures.survives disk_tells then_tells)
+          _ (c.in_ok-serve_frame.ensures.whole then_tells);
+    }

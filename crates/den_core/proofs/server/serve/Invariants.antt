@@ -1,0 +1,28 @@
+use Rattle.std.proofs.Common.{◌≡◌, ◌-◌, IsTrue}
+use Rattle.den_disk.specs.Goes.{DiskGoesOn, LinkGoesOn, ClockGoesOn, added}
+use Rattle.den_model.specs.Crash.{Tells}
+use Rattle.den_model.specs.Frames.{frames}
+use Rattle.den_core.proofs.FramesSoFar.{SoFar}
+use Rattle.den_core.proofs.server.serve.Given as goal
+
+abbrev pub invariant-frames : goal.invariant-frames
+invariant-frames g l =
+    let D = g.D.Disk in
+    let L = g.L.Link in
+    let C = g.C.Clock in
+    let S = g.S.Stepper in
+    record {
+      limit : l.reader.limit ≡ l.limit;
+      disk : DiskGoesOn D.kind D.moment D.images D.faults l.fn.disk l.disk;
+      link : LinkGoesOn L.tells L.sent L.budget L.taken L.faults l.fn.link l.link;
+      clock : ClockGoesOn C.tells C.readings l.fn.clock l.clock;
+      ready : S.ready l.stepper;
+      rests : IsTrue (D.kind l.fn.disk).tells → S.rests l.stepper (D.content l.disk);
+      so_far : Tells (D.kind l.fn.disk).tells (L.tells l.fn.link) (C.tells l.clock)
+          → SoFar S.holds (D.images l.disk) (D.moment l.fn.disk) (D.moment l.disk)
+          (frames l.limit (L.left l.fn.link)) (frames l.limit (L.left l.link))
+          (added (C.readings l.fn.clock) (C.readings l.clock)) (added (L.sent l.fn.link) (L.sent l.link)) (S.kv l.fn.stepper) (S.kv l.stepper);
+    }
+
+abbrev pub decreases-frames : goal.decreases-frames
+decreases-frames g l = g.L.Link.budget l.link - g.L.Link.taken l.link

@@ -1,0 +1,180 @@
+//! Frames read from a link: a length in eight bytes, and so many bytes.
+ghost use Rattle.std.specs.Prelude.{◌≡◌, ◌+◌, ◌-◌, ◌<◌, ◌≤◌, IsTrue, IsSome, IfOk, IfSome, IfErr, OnErr, OnOk, length, take, drop, [], ℕ, vec_len};
+ghost use Rattle.den_disk.specs.Goes.{Rose, LinkGoesOn};
+ghost use Rattle.den_model.specs.Frames.{frame_of, asked, IsBuiltFrame, is_built, is_built_operation};
+ghost use Rattle.den_model.specs.Reading.{request_in};
+ghost use Rattle.den_core.specs.Input.{Took, IsPiece, IsBehind, Found};
+ghost use Rattle.den_core.specs.Refusals.{IsLinkRefusal};
+
+use den_codec::{Error, Frame, Request, WriteOperation, read_request};
+use den_disk::{Link, LinkFault, Piece};
+use std::alloc::{AllocError, Global};
+
+/// How many bytes are read of a body at once: no more memory than this is taken before its bytes have come.
+const PIECE: u64 = 65536;
+
+/// Fills the buffer, or reads to the end of the input.
+fn fill<L: Link>(link: &mut L, buf: &mut [u8]) -> Result<usize, LinkFault>
+    ensures on { LinkGoesOn L.tells L.sent L.budget L.taken L.faults link.old link.new }
+    ensures sent { IsTrue (L.tells link.old) → L.sent link.new ≡ L.sent link.old }
+    ensures took { IfOk result (λ n. Took L.tells L.left L.sent L.budget L.taken n link.old link.new) }
+    ensures bytes { IfOk result (λ n. IsTrue (L.tells link.old) → take n buf.new ≡ take n (L.left link.old)) }
+    ensures size { IfOk result (λ n. n ≤ length buf.new) }
+    ensures end { IfOk result (λ n. n < length buf.new → IsTrue (L.tells link.old) → L.left link.new ≡ []) }
+    ensures cause { OnErr result (Rose (L.faults link.old) (L.faults link.new)) }
+{
+    let mut n = 0;
+    while n < buf.len() {
+        match link.read(&mut buf[n..])? {
+            Piece::Got(more) => n += more,
+            Piece::End => return Ok(n),
+        }
+    }
+    Ok(n)
+}
+
+/// Reads past so many bytes, or to the end of the input.
+fn skip<L: Link>(link: &mut L, size: u64) -> Result<(), LinkFault>
+    ensures on { LinkGoesOn L.tells L.sent L.budget L.taken L.faults link.old link.new }
+    ensures sent { IsTrue (L.tells link.old) → L.sent link.new ≡ L.sent link.old }
+    ensures rest { OnOk result (IsTrue (L.tells link.old) → L.left link.new ≡ drop size (L.left link.old)) }
+    ensures cause { OnErr result (Rose (L.faults link.old) (L.faults link.new)) }
+{
+    let mut chunk = [0; 4096];
+    let mut rest = size;
+    while rest > 0 {
+        let want = rest.min(4096) as usize;
+        let got = fill(link, &mut chunk[..want])?;
+        if got < want {
+            return Ok(());
+        }
+        rest -= want as u64;
+    }
+    Ok(())
+}
+
+/// Adds so many bytes to the body, or reads to the end of the input and answers `false`.
+fn read_piece<L: Link>(link: &mut L, size: usize, body: &mut Vec<u8>) -> Result<bool, Error>
+    requires { size ≤ 65536 }
+    ensures on { LinkGoesOn L.tells L.sent L.budget L.taken L.faults link.old link.new }
+    ensures sent { IsTrue (L.tells link.old) → L.sent link.new ≡ L.sent link.old }
+    ensures piece { IfOk result (λ whole. IsTrue (L.tells link.old) → IsPiece size (L.left link.old) (L.left link.new) body.old.items body.new.items whole) }
+    ensures refused { IfErr result (λ e. IsLinkRefusal (Rose (L.faults link.old) (L.faults link.new)) e) }
+{
+    let at = body.len();
+    body.resize(at + size, 0)?;
+    let got = fill(link, &mut body[at..])?;
+    Ok(got == size)
+}
+
+/// Reads a body of this size into the buffer, or to the end of the input and answers `false`.
+fn read_body<L: Link>(link: &mut L, size: u64, body: &mut Vec<u8>) -> Result<bool, Error>
+    ensures on { LinkGoesOn L.tells L.sent L.budget L.taken L.faults link.old link.new }
+    ensures sent { IsTrue (L.tells link.old) → L.sent link.new ≡ L.sent link.old }
+    ensures body { IfOk result (λ whole. IsTrue (L.tells link.old) → IsPiece size (L.left link.old) (L.left link.new) [] body.new.items whole) }
+    ensures refused { IfErr result (λ e. IsLinkRefusal (Rose (L.faults link.old) (L.faults link.new)) e) }
+{
+    body.clear();
+    let mut rest = size;
+    while rest > 0 {
+        let want = rest.min(PIECE);
+        if !read_piece(link, want as usize, body)? {
+            return Ok(false);
+        }
+        rest -= want;
+    }
+    Ok(true)
+}
+
+/// Whether this server carries out the operation: a put without a time to live.
+fn is_built_operation(operation: &Option<WriteOperation>) -> bool
+    ensures { result ≡ is_built_operation operation.now }
+{
+    match operation {
+        Some(WriteOperation::Insert { ttl_secs, .. }) => ttl_secs.is_none(),
+        Some(WriteOperation::Delete { .. } | WriteOperation::CompareAndSwap { .. }) | None => false,
+    }
+}
+
+/// Whether this server answers the request: a put without a time to live, or a read of one key.
+fn is_built(request: &Request) -> bool
+    ensures { result ≡ is_built request.now }
+{
+    match request {
+        Request::Write(write) => is_built_operation(&write.command),
+        Request::Read(read) => read.keys.as_slice().len() == 1,
+        Request::Scan { .. } | Request::Watch { .. } | Request::Members { .. } => false,
+    }
+}
+
+/// What a body asks: a request that this server answers, or a bad frame.
+fn asked(alloc: Global, body: &[u8]) -> Result<Frame, AllocError>
+    ensures is { IfOk result (λ frame. frame ≡ asked (request_in body.now)) }
+    ensures built { IfOk result IsBuiltFrame }
+{
+    match read_request(alloc, body)? {
+        Some(request) if is_built(&request) => Ok(Frame::Good(request)),
+        Some(_) | None => Ok(Frame::Bad),
+    }
+}
+
+/// Reads frames from a link, none of whose bodies is longer than the limit. A longer one is read past.
+#[derive(Debug, Drop)]
+pub struct FrameReader {
+    alloc: Global,
+    limit: u32,
+    /// The body of the last frame: its memory is used again.
+    body: Vec<u8>,
+}
+
+impl FrameReader {
+    pub fn new(alloc: Global, limit: u32) -> FrameReader
+        ensures { result.limit ≡ limit }
+    {
+        FrameReader {
+            alloc,
+            limit,
+            body: Vec::new(alloc),
+        }
+    }
+
+    /// The frame behind a length.
+    fn behind<L: Link>(&mut self, link: &mut L, size: u64) -> Result<Frame, Error>
+        ensures on { LinkGoesOn L.tells L.sent L.budget L.taken L.faults link.old link.new }
+        ensures sent { IsTrue (L.tells link.old) → L.sent link.new ≡ L.sent link.old }
+        ensures behind { IfOk result (λ frame. IsTrue (L.tells link.old) → IsBehind self.old.limit size (L.left link.old) (L.left link.new) frame) }
+        ensures built { IfOk result IsBuiltFrame }
+        ensures limit { self.new.limit ≡ self.old.limit }
+        ensures refused { IfErr result (λ e. IsLinkRefusal (Rose (L.faults link.old) (L.faults link.new)) e) }
+    {
+        if size > u64::from(self.limit) {
+            skip(link, size)?;
+            return Ok(Frame::Bad);
+        }
+        if !read_body(link, size, &mut self.body)? {
+            return Ok(Frame::Bad);
+        }
+        Ok(asked(self.alloc, &self.body)?)
+    }
+
+    /// The next frame, or `None` at the end of the input. After an error it is not called again.
+    pub fn next<L: Link>(&mut self, link: &mut L) -> Result<Option<Frame>, Error>
+        ensures on { LinkGoesOn L.tells L.sent L.budget L.taken L.faults link.old link.new }
+        ensures sent { IsTrue (L.tells link.old) → L.sent link.new ≡ L.sent link.old }
+        ensures found { IfOk result (λ found. IsTrue (L.tells link.old) → Found self.old.limit (L.left link.old) (L.left link.new) found) }
+        ensures built { IfOk result (λ found. IfSome found IsBuiltFrame) }
+        ensures nearer { IfOk result (λ found. IsSome found → L.budget link.new - L.taken link.new < L.budget link.old - L.taken link.old) }
+        ensures limit { self.new.limit ≡ self.old.limit }
+        ensures refused { IfErr result (λ e. IsLinkRefusal (Rose (L.faults link.old) (L.faults link.new)) e) }
+    {
+        let mut head = [0; 8];
+        let got = fill(link, &mut head)?;
+        if got == 0 {
+            return Ok(None);
+        }
+        if got < 8 {
+            return Ok(Some(Frame::Bad));
+        }
+        Ok(Some(self.behind(link, u64::from_be_bytes(head))?))
+    }
+}

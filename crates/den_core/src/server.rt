@@ -1,0 +1,189 @@
+//! The loop that serves frames: each is a step, and what the step answers is sent behind it.
+ghost use Rattle.std.specs.Prelude.{◌≡◌, ◌<◌, ◌≤◌, ◌^◌, ◌-◌, ◌++◌, ℕ, List, drop, IsTrue, OnOk, IfErr, length, vec_len};
+ghost use Rattle.den_disk.specs.Goes.{Rose, IsPrefix, stamped, added, DiskGoesOn, LinkGoesOn, ClockGoesOn};
+ghost use Rattle.den_model.specs.Crash.{Survives, IsWhole, IsDone, IsServed, Tells};
+ghost use Rattle.den_model.specs.Frames.{framed, frames, IsBuiltFrame};
+ghost use Rattle.den_model.specs.Plan.{turn, turns, plan};
+ghost use Rattle.den_core.specs.Answers.{frames_of};
+ghost use Rattle.den_core.specs.Early.{EarlyIsRefused};
+ghost use Rattle.den_core.specs.Refusals.{IsLinkRefusal, IsServeRefusal};
+
+use crate::{FrameReader, StepOut, Stepper};
+use den_codec::{Error, Frame, Word};
+use den_disk::{Clock, Disk, Link};
+use std::alloc::{AllocError, Global};
+
+/// Writes the length of what stands behind the first eight bytes into those.
+fn set_length(frame: &mut [u8])
+    requires { 8 ≤ length frame.old }
+    ensures { frame.new ≡ framed (drop 8 frame.old) }
+{
+    let size = (frame.len() - 8) as u64;
+    frame[..8].copy_from_slice(&size.to_be_bytes());
+}
+
+/// Makes the buffer the frame of a value's word.
+fn put_frame<W: Word>(value: &W, frame: &mut Vec<u8>) -> Result<(), AllocError>
+    ensures { OnOk result (frame.new.items ≡ framed (W.word value.now)) }
+{
+    frame.clear();
+    frame.extend_from_slice(&[0; 8])?;
+    value.put(frame)?;
+    set_length(frame);
+    Ok(())
+}
+
+/// Sends the frame of a value's word, which is made in the buffer first.
+fn send_frame<D: Disk, L: Link, W: Word>(
+    link: &mut L,
+    disk: &D,
+    value: &W,
+    frame: &mut Vec<u8>,
+) -> Result<(), Error>
+    ensures on { LinkGoesOn L.tells L.sent L.budget L.taken L.faults link.old link.new }
+    ensures left { IsTrue (L.tells link.old) → L.left link.new ≡ L.left link.old }
+    ensures all { OnOk result (IsTrue (L.tells link.old) → L.sent link.new ≡ L.sent link.old ++ stamped (framed (W.word value.now)) (D.moment disk.now)) }
+    ensures front { IsTrue (L.tells link.old) → (front : List ℕ) × IsPrefix front (framed (W.word value.now))
+        × (L.sent link.new ≡ L.sent link.old ++ stamped front (D.moment disk.now)) }
+    ensures refused { IfErr result (λ e. IsLinkRefusal (Rose (L.faults link.old) (L.faults link.new)) e) }
+{
+    put_frame(value, frame)?;
+    link.send(frame, disk)?;
+    Ok(())
+}
+
+/// Sends a step's reply, and then each of its events.
+fn send_all<D: Disk, L: Link>(
+    link: &mut L,
+    disk: &D,
+    out: &StepOut,
+    frame: &mut Vec<u8>,
+) -> Result<(), Error>
+    ensures on { LinkGoesOn L.tells L.sent L.budget L.taken L.faults link.old link.new }
+    ensures left { IsTrue (L.tells link.old) → L.left link.new ≡ L.left link.old }
+    ensures all { OnOk result (IsTrue (L.tells link.old) → L.sent link.new ≡ L.sent link.old ++ stamped (frames_of out.now.reply out.now.events) (D.moment disk.now)) }
+    ensures front { IsTrue (L.tells link.old) → (front : List ℕ) × IsPrefix front (frames_of out.now.reply out.now.events)
+        × (L.sent link.new ≡ L.sent link.old ++ stamped front (D.moment disk.now)) }
+    ensures refused { IfErr result (λ e. IsLinkRefusal (Rose (L.faults link.old) (L.faults link.new)) e) }
+{
+    send_frame(link, disk, &out.reply, frame)?;
+    for event in out.events.as_slice() {
+        send_frame(link, disk, event, frame)?;
+    }
+    Ok(())
+}
+
+/// Makes a frame's steps, and sends what they answer, in this order.
+fn serve_frame<D: Disk, L: Link, S: Stepper<D>>(
+    stepper: &mut S,
+    disk: &mut D,
+    link: &mut L,
+    frame: Frame,
+    moment: u64,
+    buffer: &mut Vec<u8>,
+) -> Result<(), Error>
+    requires ready { S.ready stepper.old }
+    requires rests { IsTrue (D.kind disk.old).tells → S.rests stepper.old (D.content disk.old) }
+    requires built { IsBuiltFrame frame }
+    requires moment { 1 ≤ moment }
+    ensures disk { DiskGoesOn D.kind D.moment D.images D.faults disk.old disk.new }
+    ensures link { LinkGoesOn L.tells L.sent L.budget L.taken L.faults link.old link.new }
+    ensures left { IsTrue (L.tells link.old) → L.left link.new ≡ L.left link.old }
+    ensures survives { IsTrue (D.kind disk.old).tells → IsTrue (L.tells link.old)
+        → Survives S.holds (D.images disk.new) (D.moment disk.old) (D.moment disk.new) (added (L.sent link.old) (L.sent link.new))
+        (S.kv stepper.old) (turn (S.kv stepper.old) frame moment) }
+    ensures whole { OnOk result (IsTrue (L.tells link.old)
+        → IsWhole (added (L.sent link.old) (L.sent link.new)) (S.kv stepper.old) (turn (S.kv stepper.old) frame moment) (S.kv stepper.new)) }
+    ensures ready { OnOk result (S.ready stepper.new) }
+    ensures rests { OnOk result (IsTrue (D.kind disk.old).tells → S.rests stepper.new (D.content disk.new)) }
+    ensures refused { IfErr result (λ e. IsServeRefusal (Rose (D.faults disk.old) (D.faults disk.new)) (Rose (L.faults link.old) (L.faults link.new)) (D.kind disk.old).limit e) }
+{
+    let out = stepper.step(disk, frame, moment)?;
+    send_all(link, disk, &out, buffer)?;
+    Ok(())
+}
+
+/// Serves each frame of the input, to its end. A body may be no longer than the limit.
+pub fn serve<D: Disk, L: Link, C: Clock, S: Stepper<D>>(
+    stepper: &mut S,
+    disk: &mut D,
+    link: &mut L,
+    clock: &mut C,
+    limit: u32,
+    alloc: Global,
+) -> Result<(), Error>
+    requires ready { S.ready stepper.old }
+    requires rests { IsTrue (D.kind disk.old).tells → S.rests stepper.old (D.content disk.old) }
+    ensures disk { DiskGoesOn D.kind D.moment D.images D.faults disk.old disk.new }
+    ensures link { LinkGoesOn L.tells L.sent L.budget L.taken L.faults link.old link.new }
+    ensures clock { ClockGoesOn C.tells C.readings clock.old clock.new }
+
+    // At every exit, and after a crash at any moment, the disk stands for the state after a prefix of the turns that
+    // holds each step of which a byte was sent.
+    ensures survives { Tells (D.kind disk.old).tells (L.tells link.old) (C.tells clock.new)
+        → Survives S.holds (D.images disk.new) (D.moment disk.old) (D.moment disk.new) (added (L.sent link.old) (L.sent link.new))
+        (S.kv stepper.old) (turns (S.kv stepper.old) (frames limit (L.left link.old)) (added (C.readings clock.old) (C.readings clock.new))) }
+
+    // At Ok all turns were made, and exactly what they answer was sent.
+    ensures done { OnOk result (Tells (D.kind disk.old).tells (L.tells link.old) (C.tells clock.new)
+        → IsDone (L.left link.new) (length (added (C.readings clock.old) (C.readings clock.new))) (length (frames limit (L.left link.old)))
+        (added (L.sent link.old) (L.sent link.new)) (S.kv stepper.old)
+        (turns (S.kv stepper.old) (frames limit (L.left link.old)) (added (C.readings clock.old) (C.readings clock.new))) (S.kv stepper.new)) }
+    ensures ready { OnOk result (S.ready stepper.new) }
+    ensures rests { OnOk result (IsTrue (D.kind disk.old).tells → S.rests stepper.new (D.content disk.new)) }
+    ensures refused { IfErr result (λ e. IsServeRefusal (Rose (D.faults disk.old) (D.faults disk.new)) (Rose (L.faults link.old) (L.faults link.new)) (D.kind disk.old).limit e) }
+{
+    let mut reader = FrameReader::new(alloc, limit);
+    let mut buffer = Vec::new(alloc);
+    'frames: loop {
+        let found = reader.next(link)?;
+        let Some(frame) = found else {
+            return Ok(());
+        };
+        let moment = clock.now().max(1);
+        serve_frame(stepper, disk, link, frame, moment, &mut buffer)?;
+    }
+}
+
+/// Opens an engine at the clock's reading, and serves each frame of the input, to its end. A body may be no longer than
+/// the limit.
+pub fn run_from<D: Disk, L: Link, C: Clock, S: Stepper<D>>(
+    stepper: &mut S,
+    disk: &mut D,
+    link: &mut L,
+    clock: &mut C,
+    limit: u32,
+    alloc: Global,
+) -> Result<(), Error>
+    requires ready { S.ready stepper.old }
+    requires rests { IsTrue (D.kind disk.old).tells → S.rests stepper.old (D.content disk.old) }
+    requires term { (S.kv stepper.old).durable.term < 2 ^ 64 - 1 }
+    requires index { (S.kv stepper.old).durable.last_index < 2 ^ 64 - 1 }
+
+    // At Ok exactly the plan's output was sent, and its end is on the disk.
+    ensures served { OnOk result (Tells (D.kind disk.old).tells (L.tells link.old) (C.tells clock.new)
+        → let readings = added (C.readings clock.old) (C.readings clock.new) in
+        IsServed S.holds (D.images disk.new) (D.moment disk.new) (L.left link.new) (length readings) (length (frames limit (L.left link.old)))
+        (added (L.sent link.old) (L.sent link.new)) (S.kv stepper.old) (plan (S.kv stepper.old) (frames limit (L.left link.old)) readings)) }
+
+    // At every exit, and after a crash at any moment, inside a call too, the disk stands for the state after a prefix
+    // of the plan that holds each step of which a byte was sent.
+    ensures any_moment { Tells (D.kind disk.old).tells (L.tells link.old) (C.tells clock.new)
+        → Survives S.holds (D.images disk.new) (D.moment disk.old) (D.moment disk.new) (added (L.sent link.old) (L.sent link.new))
+        (S.kv stepper.old) (plan (S.kv stepper.old) (frames limit (L.left link.old)) (added (C.readings clock.old) (C.readings clock.new))) }
+    ensures disk { DiskGoesOn D.kind D.moment D.images D.faults disk.old disk.new }
+    ensures link { LinkGoesOn L.tells L.sent L.budget L.taken L.faults link.old link.new }
+    ensures clock { ClockGoesOn C.tells C.readings clock.old clock.new }
+    ensures ready { OnOk result (S.ready stepper.new) }
+    ensures rests { OnOk result (IsTrue (D.kind disk.old).tells → S.rests stepper.new (D.content disk.new)) }
+    ensures refused { IfErr result (λ e. IsServeRefusal (Rose (D.faults disk.old) (D.faults disk.new)) (Rose (L.faults link.old) (L.faults link.new)) (D.kind disk.old).limit e) }
+{
+    let moment = clock.now().max(1);
+    stepper.open_at(disk, moment)?;
+    serve(stepper, disk, link, clock, limit, alloc)
+}
+
+/// The crash clause refuses a reply that is sent before its step.
+pub fn early_is_refused()
+    ensures { EarlyIsRefused }
+{}

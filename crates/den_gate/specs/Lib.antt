@@ -1,0 +1,6 @@
+pub mod Causes
+pub mod Gate
+pub mod Loading
+pub mod Slot
+pub mod Steps
+pub mod Window

@@ -1,0 +1,169 @@
+//! A gate file: the slot that a family's head names, as a list of payloads.
+ghost use Rattle.std.specs.Prelude.{◌≤◌, ◌^◌};
+
+use crate::GateError;
+use crate::add::add;
+use crate::find::{find_end, find_slot};
+use crate::room::make_room;
+use crate::take::take_all;
+use den_disk::{Disk, Family, Part, Place};
+use den_model::{Blob, Rows};
+use std::alloc::Global;
+
+/// A list of payloads on the disk that it was loaded from.
+#[derive(Drop)]
+pub struct GateFile {
+    slot: Place,
+    end: u64,
+    failed: bool,
+    ghost low: { end ≤ 2 ^ 62 },
+}
+
+impl GateFile {
+    ghost use Rattle.std.specs.Prelude.{◌≡◌, ◌+◌, ◌<◌, ℕ, List, [], ◌∷◌, ◌++◌, true, false, Err, IsTrue, IsErrOf, IfErr, IfOk, OnOk, length};
+    ghost use Rattle.den_disk.specs.Files.{Files, Content};
+    ghost use Rattle.den_disk.specs.Crash.{Leaves, Stays};
+    ghost use Rattle.den_disk.specs.Goes.{DiskGoesOn, Rose};
+    ghost use Rattle.den_disk.specs.Families.{SparesAll, SparesOthers, SparesImages, NoNewImages};
+    ghost use Rattle.den_model.specs.Regions.{regions};
+    ghost use Rattle.den_model.specs.Image.{slot_of};
+    ghost use Rattle.den_gate.specs.declared.error.GateError.TheVariants.{StorageIoError};
+    ghost use Rattle.den_gate.specs.Causes.{Because};
+    ghost use Rattle.den_gate.specs.Slot.{IsShort, room_for};
+    ghost use Rattle.den_gate.specs.Steps.{Keeps, KeepsOrAdds, Spares};
+    ghost use Rattle.den_gate.specs.Gate.{payloads, IsAtRest, IsCurrent, KeepsFamily, KeepsOrAddsFamily};
+    ghost use Rattle.den_gate.specs.Loading.{IsDurable};
+
+    /// Finds where a family's list ends, with all files on the disk. It takes no memory and writes nothing.
+    pub fn load<D: Disk>(family: Family, disk: &mut D) -> Result<GateFile, GateError>
+        ensures disk { DiskGoesOn D.kind D.moment D.images D.faults disk.old disk.new }
+        ensures slot { IsTrue (D.kind disk.old).tells → IfOk result (λ gate. gate.slot ≡ slot_of family (D.content disk.old).reading) }
+        ensures family { IfOk result (λ gate. gate.slot.family ≡ family) }
+        ensures at_rest { IsTrue (D.kind disk.old).tells → IfOk result (λ gate. IsAtRest gate (D.content disk.new)) }
+        ensures current { IsTrue (D.kind disk.old).tells → IfOk result (λ gate. IsCurrent gate.slot (D.content disk.new)) }
+        ensures durable { IsTrue (D.kind disk.old).tells → IsDurable result (D.content disk.old) (D.content disk.new) }
+        ensures spares { IsTrue (D.kind disk.old).tells → SparesAll (D.content disk.old) (D.content disk.new) }
+        ensures images { IsTrue (D.kind disk.old).tells → NoNewImages (D.images disk.old) (D.images disk.new) (D.moment disk.old) (D.moment disk.new) }
+        ensures ready { IfOk result (λ gate. gate.failed ≡ false) }
+        ensures refused { IfErr result (Because ⊥ (Rose (D.faults disk.old) (D.faults disk.new)) (λ needed limit. ⊥) (λ part offset.
+            IsTrue (D.kind disk.old).tells → (part ≡ (slot_of family (D.content disk.old).reading).part)
+            × (regions ((D.content disk.old).reading (slot_of family (D.content disk.old).reading)) ≡ Err offset))) }
+    {
+        disk.sync()?;
+        let slot = find_slot(disk, family)?;
+        let end = find_end(disk, slot)?;
+        Ok(GateFile {
+            slot,
+            end,
+            failed: false,
+        })
+    }
+
+    /// The payloads. On a disk that does not tell it answers DataCorruption where it finds other bytes than before.
+    pub fn regions<D: Disk>(&self, alloc: Global, disk: &mut D) -> Result<Rows<Blob>, GateError>
+        requires at_rest { IsTrue (D.kind disk.old).tells → IsAtRest self.now (D.content disk.old) }
+        ensures disk { DiskGoesOn D.kind D.moment D.images D.faults disk.old disk.new }
+        ensures payloads { IsTrue (D.kind disk.old).tells → IfOk result (λ list. list ≡ payloads self.now (D.content disk.old).reading) }
+        ensures stays { IsTrue (D.kind disk.old).tells → Stays D.content D.moment D.images disk.old disk.new }
+        ensures spares { IsTrue (D.kind disk.old).tells → SparesAll (D.content disk.old) (D.content disk.new) }
+        ensures images { IsTrue (D.kind disk.old).tells → NoNewImages (D.images disk.old) (D.images disk.new) (D.moment disk.old) (D.moment disk.new) }
+        ensures refused { IfErr result (Because (Unit {0}) (Rose (D.faults disk.old) (D.faults disk.new)) (λ needed limit. ⊥) (λ part offset. IsTrue (D.kind disk.old).tells → ⊥)) }
+    {
+        take_all(alloc, disk, self.slot)
+    }
+
+    /// Makes room for a payload of so many bytes. The list stays. It takes no memory.
+    pub fn reserve<D: Disk>(&mut self, disk: &mut D, bytes: u64) -> Result<(), GateError>
+        requires ready { self.old.failed ≡ false }
+        requires at_rest { IsTrue (D.kind disk.old).tells → IsAtRest self.old (D.content disk.old) }
+
+        ensures disk { DiskGoesOn D.kind D.moment D.images D.faults disk.old disk.new }
+        ensures at_rest { IsTrue (D.kind disk.old).tells → OnOk result (IsAtRest self.new (D.content disk.new)) }
+        ensures same { IsTrue (D.kind disk.old).tells → OnOk result (payloads self.new (D.content disk.new).reading ≡ payloads self.old (D.content disk.old).reading) }
+        ensures room { IsTrue (D.kind disk.old).tells → OnOk result (IsShort ((D.content disk.new).reading self.old.slot) self.old.end bytes → ⊥) }
+
+        // At each moment of the call, whatever comes of it, a crash leaves the list and nothing new in the other files.
+        ensures any_moment { IsTrue (D.kind disk.old).tells → Leaves D.content D.moment D.images
+            (λ t files. Keeps self.old.slot (payloads self.old (D.content disk.old).reading) (D.images disk.old (D.moment disk.old)) files) disk.old disk.new }
+        ensures spares { IsTrue (D.kind disk.old).tells → Spares self.old.slot (D.content disk.old) (D.content disk.new) }
+
+        // The same of whole families, where the family's head names the slot.
+        ensures current { IsTrue (D.kind disk.old).tells → IsCurrent self.old.slot (D.content disk.old) → IsCurrent self.new.slot (D.content disk.new) }
+        ensures family { IsTrue (D.kind disk.old).tells → IsCurrent self.old.slot (D.content disk.old) → KeepsFamily self.old.slot
+            (payloads self.old (D.content disk.old).reading) (D.images disk.new) (D.moment disk.old) (D.moment disk.new) }
+        ensures others { IsTrue (D.kind disk.old).tells → SparesOthers self.old.slot.family (D.content disk.old) (D.content disk.new) }
+        ensures images { IsTrue (D.kind disk.old).tells → SparesImages self.old.slot.family (D.images disk.old) (D.images disk.new) (D.moment disk.old) (D.moment disk.new) }
+
+        ensures slot { self.new.slot ≡ self.old.slot }
+        ensures end { self.new.end ≡ self.old.end }
+        ensures ready { OnOk result (self.new.failed ≡ false) }
+        ensures failed { IsErrOf result GateError.StorageIoError → self.new.failed ≡ true }
+        ensures refused { IfErr result (Because ⊥ (Rose (D.faults disk.old) (D.faults disk.new)) (λ needed limit.
+            (needed ≡ room_for self.old.end bytes) × (limit ≡ (D.kind disk.old).limit) × (limit < needed) × (self.new.failed ≡ false)
+            × (IsTrue (D.kind disk.old).tells → IsShort ((D.content disk.old).reading self.old.slot) self.old.end bytes × Stays D.content D.moment D.images disk.old disk.new))
+            (λ part offset. ⊥)) }
+        ensures not_full { IsTrue (D.kind disk.old).tells → OnOk result (IsShort ((D.content disk.old).reading self.old.slot) self.old.end bytes
+            → room_for self.old.end bytes ≤ (D.kind disk.old).limit) }
+    {
+        let made = make_room(disk, self.slot, self.end, bytes);
+        self.failed = matches!(made, Err(GateError::StorageIoError));
+        made
+    }
+
+    /// Adds a payload to the list. At `Ok` it is on the disk. It takes no memory.
+    pub fn append<D: Disk>(&mut self, disk: &mut D, payload: &[u8]) -> Result<(), GateError>
+        requires ready { self.old.failed ≡ false }
+        requires at_rest { IsTrue (D.kind disk.old).tells → IsAtRest self.old (D.content disk.old) }
+
+        ensures disk { DiskGoesOn D.kind D.moment D.images D.faults disk.old disk.new }
+        ensures at_rest { IsTrue (D.kind disk.old).tells → OnOk result (IsAtRest self.new (D.content disk.new)) }
+        ensures appended { IsTrue (D.kind disk.old).tells → OnOk result (
+            payloads self.new (D.content disk.new).reading ≡ payloads self.old (D.content disk.old).reading ++ payload.now ∷ []) }
+
+        // At each moment of the call, whatever comes of it, a crash leaves the list from before it, with the payload or
+        // without, and nothing new in the other files.
+        ensures any_moment { IsTrue (D.kind disk.old).tells → Leaves D.content D.moment D.images
+            (λ t files. KeepsOrAdds self.old.slot (payloads self.old (D.content disk.old).reading) payload.now (D.images disk.old (D.moment disk.old)) files)
+            disk.old disk.new }
+        ensures spares { IsTrue (D.kind disk.old).tells → Spares self.old.slot (D.content disk.old) (D.content disk.new) }
+
+        // The same of whole families, where the family's head names the slot.
+        ensures current { IsTrue (D.kind disk.old).tells → IsCurrent self.old.slot (D.content disk.old) → IsCurrent self.new.slot (D.content disk.new) }
+        ensures family { IsTrue (D.kind disk.old).tells → IsCurrent self.old.slot (D.content disk.old) → KeepsOrAddsFamily self.old.slot
+            (payloads self.old (D.content disk.old).reading) payload.now (D.images disk.new) (D.moment disk.old) (D.moment disk.new) }
+        ensures others { IsTrue (D.kind disk.old).tells → SparesOthers self.old.slot.family (D.content disk.old) (D.content disk.new) }
+        ensures images { IsTrue (D.kind disk.old).tells → SparesImages self.old.slot.family (D.images disk.old) (D.images disk.new) (D.moment disk.old) (D.moment disk.new) }
+
+        ensures slot { self.new.slot ≡ self.old.slot }
+        ensures end { OnOk result (self.new.end ≡ self.old.end + (9 + length payload.now)) }
+        ensures ready { OnOk result (self.new.failed ≡ false) }
+        ensures failed { IsErrOf result GateError.StorageIoError → self.new.failed ≡ true }
+        ensures refused { IfErr result (Because ⊥ (Rose (D.faults disk.old) (D.faults disk.new)) (λ needed limit.
+            (needed ≡ room_for self.old.end (length payload.now)) × (limit ≡ (D.kind disk.old).limit) × (limit < needed)
+            × (self.new.end ≡ self.old.end) × (self.new.failed ≡ false)
+            × (IsTrue (D.kind disk.old).tells → IsShort ((D.content disk.old).reading self.old.slot) self.old.end (length payload.now) × Stays D.content D.moment D.images disk.old disk.new))
+            (λ part offset. ⊥)) }
+        ensures not_full { IsTrue (D.kind disk.old).tells → OnOk result (IsShort ((D.content disk.old).reading self.old.slot) self.old.end (length payload.now)
+            → room_for self.old.end (length payload.now) ≤ (D.kind disk.old).limit) }
+    {
+        let added = add(disk, self.slot, self.end, payload);
+        self.failed = matches!(added, Err(GateError::StorageIoError));
+        added?;
+        self.end += 9 + payload.len() as u64;
+        Ok(())
+    }
+
+    /// Whether the disk failed in a call that changes it. It is loaded anew then.
+    pub fn is_failed(&self) -> bool
+        ensures { result ≡ self.now.failed }
+    {
+        self.failed
+    }
+
+    /// The slot that the head names, A or B.
+    pub fn part(&self) -> Part
+        ensures { result ≡ self.now.slot.part }
+    {
+        self.slot.part
+    }
+}

@@ -1,0 +1,104 @@
+//! Gate files over a disk: each family a list of payloads that grows by one at a time, and that a crash leaves as it was
+//! or as it was to become.
+#![tactic(auto)]
+
+mod add;
+mod error;
+mod find;
+mod gate;
+mod look;
+mod room;
+mod take;
+mod window;
+
+pub use error::GateError;
+pub use gate::GateFile;
+
+#[cfg(test)]
+mod tests {
+    use super::*;
+    use den_disk::{Disk, DiskFault, Family, MemDisk, Part, Place};
+    use den_model::Blob;
+    use std::test::Fail;
+
+    const SLOT: Place = Place {
+        family: Family::Log,
+        part: Part::A,
+    };
+
+    // The slot's length, and its first bytes if it is so long.
+    fn read_front<D: Disk>(disk: &mut D, buffer: &mut [u8]) -> Result<u64, DiskFault> {
+        let len = disk.len(SLOT)?;
+        if buffer.len() as u64 <= len {
+            disk.read_at(SLOT, 0, buffer)?;
+        }
+        Ok(len)
+    }
+
+    #[test]
+    fn appends_and_loads(rt: HostRuntime) -> Result<(), Fail> {
+        let mut disk = MemDisk::new(rt.alloc());
+        let mut gate = GateFile::load(Family::Log, &mut disk)?;
+        gate.reserve(&mut disk, 3)?;
+        gate.append(&mut disk, b"abc")?;
+        let again = GateFile::load(Family::Log, &mut disk)?;
+        assert_eq!(rt; again.part(), Part::A);
+        let list = again.regions(rt.alloc(), &mut disk)?;
+        assert_eq!(rt; list.as_slice().len(), 1);
+        assert_eq!(rt;
+            list.as_slice().first(),
+            Some(&Blob::of(rt.alloc(), b"abc")?)
+        );
+        let mut bytes = [0; 13];
+        assert_eq!(rt; read_front(&mut disk, &mut bytes)?, 65_536);
+        assert_eq!(rt; bytes.as_slice(), b"\x01\0\0\0\0\0\0\0\x03abc\0".as_slice());
+        Ok(())
+    }
+
+    #[test]
+    fn reads_many_regions_in_one_call(rt: HostRuntime) -> Result<(), Fail> {
+        let mut disk = MemDisk::new(rt.alloc());
+        let mut gate = GateFile::load(Family::Log, &mut disk)?;
+        gate.append(&mut disk, b"abc")?;
+        gate.append(&mut disk, b"d")?;
+        gate.append(&mut disk, b"")?;
+        disk.fuse(4);
+        let again = GateFile::load(Family::Log, &mut disk)?;
+        disk.fuse(2);
+        let list = again.regions(rt.alloc(), &mut disk)?;
+        assert_eq!(rt; list.as_slice().len(), 3);
+        Ok(())
+    }
+
+    #[test]
+    fn reserves_no_more_than_the_limit(rt: HostRuntime) -> Result<(), Fail> {
+        let mut disk = MemDisk::new(rt.alloc());
+        let mut gate = GateFile::load(Family::Log, &mut disk)?;
+        let refused = gate.reserve(&mut disk, 8_796_093_022_208);
+        let full = GateError::Full {
+            needed: 8_796_093_087_744,
+            limit: 8_796_093_022_208,
+        };
+        assert_eq!(rt; refused, Err(full));
+        assert!(rt; !gate.is_failed());
+        assert_eq!(rt; read_front(&mut disk, &mut [])?, 0);
+        Ok(())
+    }
+
+    #[test]
+    fn fails_at_each_call(rt: HostRuntime) -> Result<(), Fail> {
+        for calls in 0..8 {
+            let mut disk = MemDisk::new(rt.alloc());
+            let mut gate = GateFile::load(Family::Log, &mut disk)?;
+            disk.fuse(calls);
+            let failed = gate.append(&mut disk, b"abc");
+            assert_eq!(rt; failed, Err(GateError::StorageIoError));
+            assert!(rt; gate.is_failed());
+            disk.fuse(100);
+            let again = GateFile::load(Family::Log, &mut disk)?;
+            let list = again.regions(rt.alloc(), &mut disk)?;
+            assert_eq!(rt; list.as_slice().len(), usize::from(calls == 7));
+        }
+        Ok(())
+    }
+}

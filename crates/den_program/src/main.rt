@@ -1,0 +1,51 @@
+//! The program: it serves the frames of standard input from the files of a folder, and writes replies to standard output.
+#![tactic(auto)]
+
+mod serving;
+mod status;
+mod words;
+
+use den_disk::{
+    FolderDisk, HostClock, ListClock, MemDisk, MemLink, MemSource, StdLink, StdSink,
+};
+use serving::serve_main;
+use std::alloc::Global;
+use std::process::ExitCode;
+use std::rt::Env;
+use std::{env, io};
+use words::names_of;
+
+// The words after the program's name.
+fn words_after_name(rt: &impl Env, alloc: Global) -> io::Result<Vec<String>> {
+    let mut words = Vec::new(alloc);
+    for word in env::args(rt)?.skip(1) {
+        words.push(word)?;
+    }
+    Ok(words)
+}
+
+fn main(rt: HostRuntime) -> ExitCode {
+    let alloc = rt.alloc();
+    let words = match words_after_name(&rt, alloc) {
+        Ok(words) => words,
+        Err(_) => Vec::new(alloc),
+    };
+    let mut conf = MemSource::new(Vec::new(alloc));
+    let mut errs = StdSink::new(rt.stderr());
+    let status = match names_of(alloc, &words) {
+        Ok(Some(names)) => {
+            let mut disk = FolderDisk::new(&rt, names.folder);
+            let mut link = StdLink::new(&rt);
+            let mut clock = HostClock::new(&rt);
+            serve_main(alloc, &words, &mut conf, &mut disk, &mut link, &mut clock, &mut errs)
+        }
+        Ok(None) => {
+            let mut disk = MemDisk::new(alloc);
+            let mut link = MemLink::new(alloc, Vec::new(alloc), Vec::new(alloc));
+            let mut clock = ListClock::new(Vec::new(alloc));
+            serve_main(alloc, &words, &mut conf, &mut disk, &mut link, &mut clock, &mut errs)
+        }
+        Err(_) => 1,
+    };
+    ExitCode::from(status)
+}

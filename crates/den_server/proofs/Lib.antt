@@ -1,0 +1,3 @@
+pub mod Folder
+pub mod Fresh
+pub mod Runs

@@ -1,0 +1,11 @@
+//! The server: it opens the files of a folder and serves the frames of a link.
+#![tactic(auto)]
+
+mod empty;
+mod nodes;
+mod opening;
+#[cfg(test)]
+mod rows;
+mod standalone;
+
+pub use standalone::StandaloneEngine;

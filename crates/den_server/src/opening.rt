@@ -1,0 +1,61 @@
+//! The stores of a folder, opened.
+ghost use Rattle.std.specs.Prelude.{◌≡◌, ◌<◌, ◌-◌, ◌^◌, true, [], IsTrue, IfOk, IfErr};
+ghost use Rattle.den_disk.specs.Goes.{Rose, DiskGoesOn};
+ghost use Rattle.den_model.specs.Crash.{Survives};
+ghost use Rattle.den_model.specs.Image.{durable_in};
+ghost use Rattle.den_model.specs.Kv.{nothing};
+ghost use Rattle.den_codec.specs.declared.error.Error.TheVariants.{OutOfMemory};
+ghost use Rattle.den_codec.specs.Standard.{entered, running_of};
+ghost use Rattle.den_server.specs.Causes.{IsOpeningRefusal};
+ghost use Rattle.den_server.specs.Empty.{is_folder_empty};
+
+use crate::nodes::copy_nodes;
+use den_codec::{Error, RaftNodeConfig, Running, Setting};
+use den_core::{Engine, Stepper, recover};
+use den_disk::Disk;
+use den_state::FileStateMachine;
+use den_store::{FileLogStore, FileMetaStore};
+use std::alloc::Global;
+
+/// An engine over the files of a folder.
+pub type FolderEngine = Engine<FileLogStore, FileMetaStore, FileStateMachine>;
+
+/// The run's part as a run begins.
+fn running_of(alloc: Global, config: &RaftNodeConfig) -> Result<Running, Error>
+    ensures running { IfOk result (λ running. running ≡ running_of config.now) }
+    ensures refused { IfErr result (λ e. e ≡ OutOfMemory) }
+{
+    let nodes = copy_nodes(alloc, config.cluster.initial_cluster.as_slice())?;
+    let setting = Setting::solo(
+        config.raft.lease.cleanup_interval_ms,
+        config.raft.watch.max_watcher_count,
+        config.raft.watch.watcher_buffer_size,
+    );
+    Ok(Running::at_entry(alloc, setting, nodes, config.cluster.node_id))
+}
+
+/// Opens log, hard state and map of a folder, in this order, and brings them together. Over an empty folder the engine
+/// begins with nothing.
+pub fn open_folder<D: Disk>(
+    alloc: Global,
+    disk: &mut D,
+    config: &RaftNodeConfig,
+) -> Result<FolderEngine, Error>
+    ensures disk { DiskGoesOn D.kind D.moment D.images D.faults disk.old disk.new }
+    ensures survives { IsTrue (D.kind disk.old).tells → is_folder_empty (D.content disk.old).reading ≡ true
+        → Survives durable_in (D.images disk.new) (D.moment disk.old) (D.moment disk.new) [] (entered config.now nothing) [] }
+    ensures kv { IfOk result (λ engine. IsTrue (D.kind disk.old).tells → is_folder_empty (D.content disk.old).reading ≡ true
+        → ⟦<Engine<FileLogStore, FileMetaStore, FileStateMachine> as Stepper<D>>⟧.kv engine ≡ entered config.now nothing) }
+    ensures term { IfOk result (λ engine. (⟦<Engine<FileLogStore, FileMetaStore, FileStateMachine> as Stepper<D>>⟧.kv engine).durable.term < 2 ^ 64 - 1) }
+    ensures index { IfOk result (λ engine. (⟦<Engine<FileLogStore, FileMetaStore, FileStateMachine> as Stepper<D>>⟧.kv engine).durable.last_index < 2 ^ 64 - 1) }
+    ensures ready { IfOk result (λ engine. ⟦<Engine<FileLogStore, FileMetaStore, FileStateMachine> as Stepper<D>>⟧.ready engine) }
+    ensures rests { IfOk result (λ engine. IsTrue (D.kind disk.old).tells → ⟦<Engine<FileLogStore, FileMetaStore, FileStateMachine> as Stepper<D>>⟧.rests engine (D.content disk.new)) }
+    ensures refused { IfErr result (λ e. IsOpeningRefusal (Rose (D.faults disk.old) (D.faults disk.new)) (D.kind disk.old).limit
+        (IsTrue (D.kind disk.old).tells × (is_folder_empty (D.content disk.old).reading ≡ true)) e) }
+{
+    let running = running_of(alloc, config)?;
+    let log = FileLogStore::new(alloc, disk)?;
+    let meta = FileMetaStore::new(alloc, disk)?;
+    let state = FileStateMachine::new(alloc, disk)?;
+    recover(alloc, disk, log, meta, state, running)
+}

@@ -1,0 +1,193 @@
+//! Worked rows: frames in, bytes out, and the bytes of the files, as docs/FORMATS.md gives them.
+use crate::StandaloneEngine;
+use den_codec::{Error, RaftNodeConfig};
+use den_disk::{Family, ListClock, MemDisk, MemLink, Part, Place};
+use std::alloc::Global;
+use std::test::Fail;
+
+// A put of a = b, and a read of a.
+const PUT: &[u8] = b"\0\0\0\0\0\0\0\x20\x01\0\0\0\x01\x01\0\0\0\0\0\0\0\x01a\0\0\0\0\0\0\0\x01b\0\0\0\0\0\0\0\0";
+const READ: &[u8] = b"\0\0\0\0\0\0\0\x17\x02\0\0\0\x01\0\0\0\0\0\0\0\0\x01\0\0\0\0\0\0\0\x01a";
+// Their replies.
+const WRITTEN: &[u8] = b"\0\0\0\0\0\0\0\x06\x01\0\0\0\x01\x01";
+const PAIR: &[u8] = b"\0\0\0\0\0\0\0\x1f\x01\0\0\0\x02\0\0\0\0\0\0\0\x01\0\0\0\0\0\0\0\x01a\0\0\0\0\0\0\0\x01b";
+// What is answered where a request is not carried out.
+const NOT_BUILT: &[u8] = b"\0\0\0\0\0\0\0\x02\x06\xff";
+// A put with a time to live, and a scan of everything.
+const PUT_WITH_TTL: &[u8] = b"\0\0\0\0\0\0\0\x20\x01\0\0\0\x01\x01\0\0\0\0\0\0\0\x01a\0\0\0\0\0\0\0\x01b\0\0\0\0\0\0\0\x05";
+const SCAN: &[u8] = b"\0\0\0\0\0\0\0\x0d\x03\0\0\0\x01\0\0\0\0\0\0\0\0";
+// The open regions of log, hard state and state: of the first term and its entry without effect, then of the put.
+const LOG_OF_NOOP: &[u8] = b"\x01\0\0\0\0\0\0\0\x22\x01\0\0\0\0\0\0\0\x01\0\0\0\0\0\0\0\x01\0\0\0\0\0\0\0\x01\0\0\0\0\0\0\x03\xe8\0";
+const LOG_OF_PUT: &[u8] = b"\x01\0\0\0\0\0\0\0\x35\x01\0\0\0\0\0\0\0\x01\0\0\0\0\0\0\0\x02\0\0\0\0\0\0\0\x01\0\0\0\0\0\0\x03\xe8\x01\0\0\0\0\0\0\0\x01a\0\0\0\0\0\0\0\x01b\0";
+const META: &[u8] = b"\x01\0\0\0\0\0\0\0\x15\0\0\0\0\0\0\0\x01\x01\0\0\0\x01\0\0\0\0\0\0\0\x01";
+const STATE_OF_NOOP: &[u8] = b"\x01\0\0\0\0\0\0\0\x32\x03\0\0\0\0\0\0\0\x01\0\0\0\0\0\0\0\x01\0\0\0\0\0\0\0\x01\0\0\0\0\0\0\0\0\0\0\0\0\0\0\0\0\0\0\0\0\0\0\0\0\0";
+const STATE_OF_PUT: &[u8] = b"\x01\0\0\0\0\0\0\0\x34\x03\0\0\0\0\0\0\0\x01\0\0\0\0\0\0\0\x02\0\0\0\0\0\0\0\x01\x01\0\0\0\0\0\0\0\x01a\0\0\0\0\0\0\0\x01b\0\0\0\0\0\0\0\0";
+
+const EMPTY: &[u8] = b"";
+
+// The bytes of several pieces, one behind the other.
+fn joined(alloc: Global, pieces: &[&[u8]]) -> Result<Vec<u8>, Fail> {
+    let mut bytes = Vec::new(alloc);
+    for piece in pieces {
+        bytes.extend_from_slice(piece)?;
+    }
+    Ok(bytes)
+}
+
+fn link_of(alloc: Global, pieces: &[&[u8]]) -> Result<MemLink, Fail> {
+    Ok(MemLink::new(alloc, joined(alloc, pieces)?, Vec::new(alloc)))
+}
+
+// A run with the default configuration and a clock that stands at 1000.
+fn run(alloc: Global, disk: &mut MemDisk, link: &mut MemLink) -> Result<Result<(), Error>, Fail> {
+    let config = RaftNodeConfig::standard(alloc)?.solo()?;
+    let mut readings = Vec::new(alloc);
+    readings.push(1000)?;
+    let mut clock = ListClock::new(readings);
+    Ok(StandaloneEngine::run(alloc, disk, link, &mut clock, &config))
+}
+
+// Whether a file is these pieces and then zeros, in whole chunks.
+fn holds(alloc: Global, disk: &MemDisk, family: Family, pieces: &[&[u8]]) -> Result<bool, Fail> {
+    let file = disk.get(Place {
+        family,
+        part: Part::A,
+    });
+    let front = joined(alloc, pieces)?;
+    let fits = file.len() == 65_536 && file.starts_with(&front);
+    Ok(fits && file.iter().skip(front.len()).all(|byte| *byte == 0))
+}
+
+// Whether the files are those of the opening alone.
+fn holds_opening(alloc: Global, disk: &MemDisk) -> Result<bool, Fail> {
+    Ok(holds(alloc, disk, Family::Log, &[LOG_OF_NOOP])?
+        && holds(alloc, disk, Family::Meta, &[META])?
+        && holds(alloc, disk, Family::State, &[STATE_OF_NOOP])?)
+}
+
+// Whether the files are those of the opening and the put.
+fn holds_put(alloc: Global, disk: &MemDisk) -> Result<bool, Fail> {
+    Ok(holds(alloc, disk, Family::Log, &[LOG_OF_NOOP, LOG_OF_PUT])?
+        && holds(alloc, disk, Family::Meta, &[META])?
+        && holds(alloc, disk, Family::State, &[STATE_OF_NOOP, STATE_OF_PUT])?)
+}
+
+#[test]
+fn put_and_read(rt: HostRuntime) -> Result<(), Fail> {
+    let alloc = rt.alloc();
+    let mut disk = MemDisk::new(alloc);
+    let mut link = link_of(alloc, &[PUT, READ])?;
+    assert_eq!(rt; run(alloc, &mut disk, &mut link)?, Ok(()));
+    assert_eq!(rt; link.sent(), joined(alloc, &[WRITTEN, PAIR])?.as_slice());
+    assert!(rt; holds_put(alloc, &disk)?);
+    Ok(())
+}
+
+#[test]
+fn empty_input(rt: HostRuntime) -> Result<(), Fail> {
+    let alloc = rt.alloc();
+    let mut disk = MemDisk::new(alloc);
+    let mut link = link_of(alloc, &[])?;
+    assert_eq!(rt; run(alloc, &mut disk, &mut link)?, Ok(()));
+    assert_eq!(rt; link.sent(), EMPTY);
+    assert!(rt; holds_opening(alloc, &disk)?);
+    Ok(())
+}
+
+#[test]
+fn byte_by_byte(rt: HostRuntime) -> Result<(), Fail> {
+    let alloc = rt.alloc();
+    let input = joined(alloc, &[PUT, READ])?;
+    let mut cuts = Vec::new(alloc);
+    for _ in 0..input.len() {
+        cuts.push(1)?;
+    }
+    let mut disk = MemDisk::new(alloc);
+    let mut link = MemLink::new(alloc, input, cuts);
+    assert_eq!(rt; run(alloc, &mut disk, &mut link)?, Ok(()));
+    assert_eq!(rt; link.sent(), joined(alloc, &[WRITTEN, PAIR])?.as_slice());
+    assert!(rt; holds_put(alloc, &disk)?);
+    Ok(())
+}
+
+#[test]
+fn link_faults(rt: HostRuntime) -> Result<(), Fail> {
+    let alloc = rt.alloc();
+    let mut disk = MemDisk::new(alloc);
+    let mut link = link_of(alloc, &[PUT, READ])?;
+    link.fail_read_after(40);
+    assert_eq!(rt; run(alloc, &mut disk, &mut link)?, Err(Error::LinkFault));
+    assert_eq!(rt; link.sent(), WRITTEN);
+    assert!(rt; holds_put(alloc, &disk)?);
+
+    let mut disk = MemDisk::new(alloc);
+    let mut link = link_of(alloc, &[PUT, READ])?;
+    link.fail_send_after(0);
+    assert_eq!(rt; run(alloc, &mut disk, &mut link)?, Err(Error::LinkFault));
+    assert_eq!(rt; link.sent(), EMPTY);
+    assert!(rt; holds_put(alloc, &disk)?);
+    Ok(())
+}
+
+#[test]
+fn no_disk_call(rt: HostRuntime) -> Result<(), Fail> {
+    let alloc = rt.alloc();
+    let mut disk = MemDisk::new(alloc);
+    disk.fuse(0);
+    let mut link = link_of(alloc, &[PUT, READ])?;
+    assert_eq!(rt; run(alloc, &mut disk, &mut link)?, Err(Error::StorageIoError));
+    assert_eq!(rt; link.sent(), EMPTY);
+    let log = Place {
+        family: Family::Log,
+        part: Part::A,
+    };
+    assert!(rt; disk.get(log).is_empty());
+    Ok(())
+}
+
+#[test]
+fn not_built(rt: HostRuntime) -> Result<(), Fail> {
+    let alloc = rt.alloc();
+    let mut disk = MemDisk::new(alloc);
+    let mut link = link_of(alloc, &[PUT_WITH_TTL, SCAN])?;
+    assert_eq!(rt; run(alloc, &mut disk, &mut link)?, Ok(()));
+    assert_eq!(rt; link.sent(), joined(alloc, &[NOT_BUILT, NOT_BUILT])?.as_slice());
+    assert!(rt; holds_opening(alloc, &disk)?);
+    Ok(())
+}
+
+#[test]
+fn not_empty(rt: HostRuntime) -> Result<(), Fail> {
+    let alloc = rt.alloc();
+    let snapshot = Place {
+        family: Family::Snapshot,
+        part: Part::B,
+    };
+    let mut disk = MemDisk::new(alloc);
+    disk.set(snapshot, b"x")?;
+    let mut link = link_of(alloc, &[PUT, READ])?;
+    assert_eq!(rt; run(alloc, &mut disk, &mut link)?, Err(Error::NotEmpty));
+    assert_eq!(rt; link.sent(), EMPTY);
+    assert_eq!(rt; disk.get(snapshot), b"x".as_slice());
+    Ok(())
+}
+
+// A put makes four syncs, and a read none.
+#[test]
+fn syncs(rt: HostRuntime) -> Result<(), Fail> {
+    let alloc = rt.alloc();
+    let cases: [(&[&[u8]], u64); 4] = [
+        (&[], 0),
+        (&[PUT], 4),
+        (&[PUT, PUT], 8),
+        (&[PUT, READ, SCAN, READ], 4),
+    ];
+    let mut opening = MemDisk::new(alloc);
+    assert_eq!(rt; run(alloc, &mut opening, &mut link_of(alloc, &[])?)?, Ok(()));
+    for (input, more) in cases {
+        let mut disk = MemDisk::new(alloc);
+        assert_eq!(rt; run(alloc, &mut disk, &mut link_of(alloc, input)?)?, Ok(()));
+        assert_eq!(rt; disk.syncs(), opening.syncs() + more);
+    }
+    Ok(())
+}

@@ -1,0 +1,96 @@
+-- What the calls of a state machine in files leave of its files.
+use Rattle.std.proofs.Common.{◌≡◌, inl, ◌↔◌, ℕ, ◌<◌, ◌^◌, IsTrue, Bool, List, [], ◌∷◌, ◌++◌, length, Some, Result, Err, refl, sym, ap, subst, ◌∙◌, arith}
+use Rattle.den_disk.specs.declared.place.Family.{Family}
+use Rattle.den_disk.specs.declared.place.Family.TheVariants as family
+use Rattle.den_disk.specs.declared.place.Part.{Part}
+use Rattle.den_disk.specs.declared.place.Place.{Place}
+use Rattle.den_disk.specs.Place.{place_number}
+use Rattle.den_disk.specs.Files.{Files, Kind, Content, IsImage}
+use Rattle.den_disk.specs.Goes.{DiskGoesOn}
+use Rattle.den_disk.specs.Families.{SparesAll, SparesOthers, SparesImages, OldOrNew}
+use Rattle.den_model.specs.Regions.{open_regions, placed}
+use Rattle.den_codec.specs.declared.error.Error.{Error}
+use Rattle.den_codec.specs.declared.error.Error.TheVariants as error
+use Rattle.den_model.specs.Image.{slot_of, map_in}
+use Rattle.den_model.specs.MapState.{MapState, empty_map, map_after_payload, map_from}
+use Rattle.den_gate.specs.declared.gate.GateFile.{GateFile}
+use Rattle.den_gate.specs.Gate.{payloads, IsAtRest, IsCurrent, KeepsOrAddsFamily}
+use Rattle.den_gate.proofs.Families.{rest_list, adds_meaning}
+use Rattle.den_state.specs.declared.file_machine.FileStateMachine.{FileStateMachine}
+use Rattle.den_state.specs.Machine.{Rests, map_held, IsOpeningRefusal}
+use Rattle.den_state.specs.Laws.{map_of_list, map_own, list_means, rests_image}
+use Rattle.den_state.proofs.Lists.{list_push}
+
+-- ---- no call of the disk
+
+module _ {D : Type 0} (kind : D → Kind) (content : D → Content) (moment : D → ℕ) (images : D → ℕ → Files → Type 0) (faults : D → ℕ) (disk : D) where
+  pub goes_still : DiskGoesOn kind moment images faults disk disk
+  goes_still = record {
+    same = refl;
+    counts = omega arith;
+    told = λ tells. record { later = omega arith; past = λ t files le i. i; keeps = λ t files le i. i };
+  }
+
+  pub held_still : (s : FileStateMachine) (next : MapState) → ((files : Files) → images disk (moment disk) files ↔ IsImage (content disk) files) → Rests s (content disk)
+      → OldOrNew map_held (images disk) (moment disk) (moment disk) s.map next
+  held_still s next now r = record {
+    each = λ t files from to i. let at : t ≡ moment disk = omega arith in inl (rests_image s (content disk) files r ((now files).0 (subst (λ u. images disk u files) at i)));
+  }
+
+  pub images_still : (own : Family) → SparesImages own (images disk) (images disk) (moment disk) (moment disk)
+  images_still own = record {
+    each = λ t files from to i. let at : t ≡ moment disk = omega arith in (files, subst (λ u. images disk u files) at i, λ q ne. refl);
+  }
+
+pub others_still : (own : Family) (c : Content) → SparesOthers own c c
+others_still own c = record { reading = λ q ne. refl; pending = λ q ne k h. h }
+
+-- ---- an append
+
+pub held_appended : (s : FileStateMachine) (c : Content) (payload : List ℕ) (next : MapState) (images : ℕ → Files → Type 0) (from to : ℕ) → Rests s c → map_after_payload s.map payload ≡ Some next
+    → KeepsOrAddsFamily s.gate.slot (payloads s.gate c.reading) payload images from to → OldOrNew map_held images from to s.map next
+held_appended s c payload next images from to r after kept =
+    let list = payloads s.gate c.reading in
+    adds_meaning map_held s.gate.slot list payload images from to s.map next
+    (λ files h. list_means s list s.map files r.of_state r.means h)
+    (λ files h. list_means s (list ++ payload ∷ []) next files r.of_state (list_push empty_map s.map next 0 list payload r.means after) h)
+    kept
+
+pub rests_appended : (s new : FileStateMachine) (old_content new_content : Content) (payload : List ℕ) → Rests s old_content → map_after_payload s.map payload ≡ Some new.map → new.gate.slot ≡ s.gate.slot
+    → IsAtRest new.gate new_content → IsCurrent new.gate.slot new_content → payloads new.gate new_content.reading ≡ payloads s.gate old_content.reading ++ payload ∷ [] → Rests new new_content
+rests_appended s new old_content new_content payload r after slot rest current appended = record {
+  of_state = ap (λ (p : Place). p.family) slot ∙ r.of_state;
+  at_rest = rest;
+  current = current;
+  means = ap (λ list. map_from empty_map (placed 0 list)) appended ∙ list_push empty_map s.map new.map 0 (payloads s.gate old_content.reading) payload r.means after;
+}
+
+-- ---- an opening
+
+-- what a gate file at rest lists is what the files gave before it was loaded
+pub opened_as : (gate : GateFile) (old new : Content) (given : Result MapState ℕ) → gate.slot.family ≡ family.State → IsAtRest gate new → IsCurrent gate.slot new → SparesAll old new
+    → map_from empty_map (placed 0 (payloads gate new.reading)) ≡ given → map_in old.reading ≡ given
+opened_as gate old new given of_state rest current spares gives =
+    sym (map_own old.reading new.reading (λ q of. spares.reading q))
+    ∙ map_of_list gate.slot.family (payloads gate new.reading) new.reading given of_state (rest_list gate new rest current).list_is gives
+
+-- the list that is folded is the gate file's
+pub list_gives : (gate : GateFile) (c : Content) (m : MapState) (list slice : List (List ℕ)) (given : Result MapState ℕ) → m ≡ empty_map → slice ≡ list → list ≡ payloads gate c.reading → IsAtRest gate c
+    → (length (open_regions slice) < 2 ^ 64 → map_from m (placed 0 slice) ≡ given) → map_from empty_map (placed 0 (payloads gate c.reading)) ≡ given
+list_gives gate c m list slice given empty same is rest gives =
+    let all : slice ≡ payloads gate c.reading = same ∙ is in
+    let long = ap (λ ps. length (open_regions ps)) all in
+    let size = rest.holds.size in
+    let small = rest.holds.small in
+    ap (λ ps. map_from empty_map (placed 0 ps)) (sym all) ∙ ap (λ s. map_from s (placed 0 slice)) (sym empty) ∙ gives (omega (arith, long, size, small))
+
+-- files that give no map refuse the opening
+pub opening_refused : (result : Error) (rose : Type 0) (tells : Bool) (files : Files) (slot : Place) (part : Part) (offset : ℕ)
+    → result ≡ error.DataCorruption (place_number (record { family = family.State; part = part })) offset → part ≡ slot.part
+    → (IsTrue tells → (slot ≡ slot_of family.State files) × (map_in files ≡ Err offset)) → IsOpeningRefusal rose tells files result
+opening_refused result rose tells files slot part offset is of_slot found =
+    let P = λ (e : Error). IsOpeningRefusal rose tells files e in
+    subst P (sym is) (λ t. let f = found t in (
+      ap (λ (p : Part). place_number (record { family = family.State; part = p })) (of_slot ∙ ap (λ (q : Place). q.part) f.0),
+      f.1,
+    ))

@@ -1,0 +1,34 @@
+use Rattle.std.proofs.Common.{Some, ap, ◌∙◌}
+use Rattle.den_disk.specs.declared.place.Family.TheVariants.{State}
+use Rattle.den_model.specs.MapState.{map_after_payload}
+use Rattle.den_state.proofs.Resting.{held_still, images_still, held_appended, rests_appended}
+use Rattle.den_state.proofs.file_machine.FileStateMachine.commit.Goals as goal
+
+pub returns-in_err-journaled-clause-own : goal.returns-in_err-journaled-clause-own
+returns-in_err-journaled-clause-own g c = λ tells.
+    held_still g.D.Disk.kind g.D.Disk.content g.D.Disk.moment g.D.Disk.images g.D.Disk.faults c.args.disk.now c.args.self.now _ (λ files. g.met.D.Disk.images_now c.args.disk.now files tells) (c.requires.rests tells)
+
+pub returns-in_err-journaled-clause-others : goal.returns-in_err-journaled-clause-others
+returns-in_err-journaled-clause-others g c = λ tells. images_still g.D.Disk.kind g.D.Disk.content g.D.Disk.moment g.D.Disk.images g.D.Disk.faults c.args.disk.now State
+
+pub returns-in-Ok-clause-own : goal.returns-in-Ok-clause-own
+returns-in-Ok-clause-own g c = λ tells.
+    let r = c.requires.rests tells in
+    let made = c.in_ok-journaled.ensures in
+    held_appended c.args.self.now (g.D.Disk.content c.args.disk.now) c.deref.result.now _ (g.D.Disk.images c.append.new.disk) _ _ r
+    (ap (map_after_payload c.args.self.now.map) c.deref.ensures.value ∙ made.means ∙ ap Some made.map) (c.append.ensures.family tells r.current)
+
+pub returns-in-Err-clause-own : goal.returns-in-Err-clause-own
+returns-in-Err-clause-own g c = λ tells.
+    let r = c.requires.rests tells in
+    let made = c.in_ok-journaled.ensures in
+    held_appended c.args.self.now (g.D.Disk.content c.args.disk.now) c.deref.result.now _ (g.D.Disk.images c.append.new.disk) _ _ r
+    (ap (map_after_payload c.args.self.now.map) c.deref.ensures.value ∙ made.means ∙ ap Some made.map) (c.append.ensures.family tells r.current)
+
+pub returns-in-Ok-clause-rests : goal.returns-in-Ok-clause-rests
+returns-in-Ok-clause-rests g c = λ tells.
+    let r = c.requires.rests tells in
+    let made = c.in_ok-journaled.ensures in
+    rests_appended c.args.self.now _ (g.D.Disk.content c.args.disk.now) (g.D.Disk.content c.append.new.disk) c.deref.result.now r
+    (ap (map_after_payload c.args.self.now.map) c.deref.ensures.value ∙ made.means) c.append.ensures.slot (c.in-Ok.ensures.at_rest tells) (c.append.ensures.current tells r.current)
+    (c.in-Ok.ensures.appended tells)

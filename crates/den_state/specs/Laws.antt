@@ -1,0 +1,49 @@
+-- The laws of a state machine in files.
+use Rattle.std.specs.Prelude.{◌≡◌, ℕ, List, Some, Result, Ok, refl}
+use Rattle.std.proofs.Common.{sym, ap, subst, ◌∙◌}
+use Rattle.den_disk.specs.declared.place.Family.{Family}
+use Rattle.den_disk.specs.declared.place.Family.TheVariants as family
+use Rattle.den_disk.specs.Files.{Files, Content, IsImage}
+use Rattle.den_disk.specs.Families.{SameOf, SparesOwn}
+use Rattle.den_model.specs.Regions.{regions, placed}
+use Rattle.den_model.specs.Image.{named, head_of, slot_of, meaning_of, map_in, ok}
+use Rattle.den_model.specs.MapState.{MapState, empty_map, map_from}
+use Rattle.den_gate.specs.Gate.{payloads, HasList}
+use Rattle.den_gate.proofs.Families.{rest_spared, current_spared, payloads_spared, rest_image}
+use Rattle.den_state.specs.declared.file_machine.FileStateMachine.{FileStateMachine}
+use Rattle.den_state.specs.Machine.{Rests, map_held}
+
+-- files whose State slot has a list give what the list gives
+pub map_of_list : (of : Family) (list : List (List ℕ)) (files : Files) (given : Result MapState ℕ) → of ≡ family.State → regions (files (slot_of of files)) ≡ Ok (placed 0 list)
+    → map_from empty_map (placed 0 list) ≡ given → map_in files ≡ given
+map_of_list of list files given of_state is gives =
+    ap (meaning_of (map_from empty_map)) (subst (λ f. regions (files (slot_of f files)) ≡ Ok (placed 0 list)) of_state is) ∙ gives
+
+-- only the State family counts
+pub map_own : (one other : Files) → SameOf family.State one other → map_in other ≡ map_in one
+map_own one other same =
+    let head : other (head_of family.State) ≡ one (head_of family.State) = same (head_of family.State) refl in
+    let slot : slot_of family.State other ≡ slot_of family.State one = ap (λ file. record { family = family.State; part = named file }) head in
+    ap (λ file. meaning_of (map_from empty_map) (regions file)) (same (slot_of family.State other) refl ∙ ap one slot)
+
+-- calls that spare the State family leave it as it was
+pub rests_spared : (s : FileStateMachine) (old new : Content) → SparesOwn family.State old new → Rests s old → Rests s new
+rests_spared s old new spares r =
+    let own : SparesOwn s.gate.slot.family old new = subst (λ f. SparesOwn f old new) (sym r.of_state) spares in
+    record {
+      of_state = r.of_state;
+      at_rest = rest_spared s.gate old new own r.at_rest;
+      current = current_spared s.gate.slot old new own r.current;
+      means = ap (λ list. map_from empty_map (placed 0 list)) (payloads_spared s.gate old new own) ∙ r.means;
+    }
+
+pub held_own : (one other : Files) → SameOf family.State one other → map_held other ≡ map_held one
+held_own one other same = ap ok (map_own one other same)
+
+pub list_means : (s : FileStateMachine) (list : List (List ℕ)) (m : MapState) (files : Files) → s.gate.slot.family ≡ family.State → map_from empty_map (placed 0 list) ≡ Ok m → HasList s.gate.slot list files
+    → map_held files ≡ Some m
+list_means s list m files of_state means h = ap ok (map_of_list s.gate.slot.family list files (Ok m) of_state h.list_is means)
+
+-- whatever a crash does to what is pending
+pub rests_image : (s : FileStateMachine) (c : Content) (files : Files) → Rests s c → IsImage c files → map_held files ≡ Some s.map
+rests_image s c files r image = list_means s (payloads s.gate c.reading) s.map files r.of_state r.means (rest_image s.gate c files r.at_rest r.current image)

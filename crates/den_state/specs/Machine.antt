@@ -1,0 +1,64 @@
+-- What a state machine in files is, and why its calls are refused.
+use Rattle.std.specs.Prelude.{◌≡◌, ℕ, Bool, false, IsTrue, List, [], ◌∷◌, Result, Ok, Err, Option}
+use Rattle.den_disk.specs.declared.place.Family.TheVariants as family
+use Rattle.den_disk.specs.Place.{place_number}
+use Rattle.den_disk.specs.Files.{Files, Content}
+use Rattle.den_codec.specs.declared.error.Error.{Error}
+use Rattle.den_codec.specs.declared.error.Error.TheVariants as error
+use Rattle.den_gate.specs.declared.error.GateError.{GateError}
+use Rattle.den_gate.specs.declared.error.GateError.TheVariants as gate_error
+use Rattle.den_gate.specs.Gate.{payloads, IsAtRest, IsCurrent}
+use Rattle.den_model.specs.declared.region.StateRegion.TheVariants.{Records}
+use Rattle.den_model.specs.Entries.{LogEntry}
+use Rattle.den_model.specs.Spelling.{state_region_word}
+use Rattle.den_model.specs.Regions.{placed}
+use Rattle.den_model.specs.Image.{slot_of, map_in, ok}
+use Rattle.den_model.specs.MapState.{MapState, empty_map, map_from}
+use Rattle.den_state.specs.declared.file_machine.FileStateMachine.{FileStateMachine}
+use Rattle.den_state.specs.Journal.{all_recorded}
+
+-- what files give of a map
+abbrev pub map_held : Files → Option MapState
+map_held files = ok (map_in files)
+
+-- neither it nor its gate file has failed
+abbrev pub IsReady : FileStateMachine → Type 0
+IsReady s = (s.failed ≡ false) × (s.gate.failed ≡ false)
+
+-- its gate file is at rest, is the one that the State family's head names, and its payloads give its map
+pub record Rests (s : FileStateMachine) (c : Content) : Type 0 where
+  pub of_state : s.gate.slot.family ≡ family.State
+  pub at_rest : IsAtRest s.gate c
+  pub current : IsCurrent s.gate.slot c
+  pub means : map_from empty_map (placed 0 (payloads s.gate c.reading)) ≡ Ok s.map
+
+-- one region of records for entries, and none for no entry
+abbrev pub journaled : MapState → List LogEntry → List (List ℕ)
+journaled s [] = []
+journaled s (e ∷ es) = state_region_word (Records (all_recorded s (e ∷ es))) ∷ []
+
+-- a refusal of the State family's gate file
+abbrev pub state_error : GateError → Error
+state_error gate_error.OutOfMemory = error.OutOfMemory
+state_error gate_error.StorageIoError = error.StorageIoError
+state_error (gate_error.Full needed limit) = error.DiskFull needed limit
+state_error (gate_error.DataCorruption part offset) = error.DataCorruption (place_number (record { family = family.State; part = part })) offset
+
+-- a fact of the refusals that come before anything is done: of a chunk out of order, or with a time to live
+abbrev pub OnUntouched : Type 0 → Error → Type 0
+OnUntouched P (error.UnorderedChunk index) = P
+OnUntouched P error.FeatureNotEnabled = P
+OnUntouched P _ = Unit {0}
+
+-- what may refuse an opening: want of memory, a fault of the disk, and files that give no map
+abbrev pub IsOpeningRefusal : Type 0 → Bool → Files → Error → Type 0
+IsOpeningRefusal rose tells files error.OutOfMemory = Unit {0}
+IsOpeningRefusal rose tells files error.StorageIoError = rose
+IsOpeningRefusal rose tells files (error.DataCorruption place offset) = IsTrue tells → (place ≡ place_number (slot_of family.State files)) × (map_in files ≡ Err offset)
+IsOpeningRefusal rose tells files _ = ⊥
+
+-- nothing is pending after an opening, or after one that found files that give no map
+abbrev pub IsDurable : {A : Type 0} → Result A Error → Content → Type 0
+IsDurable (Ok s) c = c.pending ≡ []
+IsDurable (Err (error.DataCorruption place offset)) c = c.pending ≡ []
+IsDurable (Err _) c = Unit {0}

@@ -1,0 +1,129 @@
+//! A chunk of entries: its order, and what it makes of the map in memory.
+ghost use Rattle.std.specs.Prelude.{◌≡◌, ◌<◌, ◌||◌, None, Some, IfOk, OnOk};
+ghost use Rattle.den_model.specs.MapState.{map_applied, map_applied_all, map_after_record, map_after_records, map_after_payload, results_of};
+ghost use Rattle.den_model.specs.declared.region.StateRegion.TheVariants.{Records};
+ghost use Rattle.den_model.specs.Spelling.{state_region_word};
+ghost use Rattle.den_model.specs.Step.{has_ttl};
+ghost use Rattle.den_state.specs.Chunk.{out_of_order, asks_lease};
+ghost use Rattle.den_state.specs.Journal.{recorded, all_recorded, tells_success};
+
+use crate::map::Map;
+use den_codec::{ApplyResult, Command, Entry, JournalRecord, LogId, write_records};
+use std::alloc::{AllocError, Global};
+
+/// What a chunk leaves: a record and a result for each entry.
+#[derive(Drop)]
+pub struct Applied {
+    pub records: Vec<JournalRecord>,
+    pub results: Vec<ApplyResult>,
+}
+
+/// The same in files: the word of a region of the records.
+#[derive(Drop)]
+pub struct Journaled {
+    pub payload: Vec<u8>,
+    pub results: Vec<ApplyResult>,
+}
+
+/// The first index that is not above the one before it, or above the mark where it is the first.
+pub fn out_of_order(mark: u64, chunk: &[Entry]) -> Option<u64>
+    ensures { result ≡ out_of_order mark chunk.now }
+{
+    let mut last = mark;
+    for entry in chunk {
+        if entry.index() <= last {
+            return Some(entry.index());
+        }
+        last = entry.index();
+    }
+    None
+}
+
+fn has_ttl(command: &Command) -> bool
+    ensures { result ≡ has_ttl command.now }
+{
+    match command {
+        Command::Insert { ttl_secs, .. } => ttl_secs.is_some(),
+        _ => false,
+    }
+}
+
+/// Whether an entry has a time to live.
+pub fn asks_lease(chunk: &[Entry]) -> bool
+    ensures { result ≡ asks_lease chunk.now }
+{
+    for entry in chunk {
+        if has_ttl(entry.command()) {
+            return true;
+        }
+    }
+    false
+}
+
+// Whether the entry of this record succeeded.
+fn tells_success(journaled: &JournalRecord) -> bool
+    ensures { result ≡ tells_success journaled.now }
+{
+    match journaled {
+        JournalRecord::CasFailed { .. } => false,
+        _ => true,
+    }
+}
+
+impl Map {
+    // Takes on an entry, and answers its record.
+    fn apply(&mut self, alloc: Global, entry: &Entry) -> Result<JournalRecord, AllocError>
+        requires { (self.old).mark.index < entry.now.index }
+        ensures map { OnOk result (self.new ≡ map_applied self.old entry.now) }
+        ensures is { IfOk result (λ r. r ≡ recorded self.old entry.now) }
+        ensures lawful { IfOk result (λ r. map_after_record self.old r ≡ Some self.new) }
+    {
+        let journaled = self.record_of(entry)?;
+        self.carry_out(alloc, &journaled)?;
+        let moment = entry.moment();
+        prove!(1 <= moment);
+        self.set_mark(LogId {
+            index: entry.index(),
+            term: entry.term(),
+        });
+        Ok(journaled)
+    }
+
+    /// Takes on entries in order, and answers the record and the result of each.
+    pub fn apply_all(&mut self, alloc: Global, chunk: &[Entry]) -> Result<Applied, AllocError>
+        requires { out_of_order (self.old).mark.index chunk.now ≡ None }
+        ensures map { OnOk result (self.new ≡ map_applied_all self.old chunk.now) }
+        ensures records { IfOk result (λ applied. applied.records.items ≡ all_recorded self.old chunk.now) }
+        ensures lawful { IfOk result (λ applied. map_after_records self.old applied.records.items ≡ Some self.new) }
+        ensures results { IfOk result (λ applied. applied.results.items ≡ results_of self.old chunk.now) }
+    {
+        let mut records = Vec::new(alloc);
+        let mut results = Vec::new(alloc);
+        for entry in chunk {
+            let journaled = self.apply(alloc, entry)?;
+            results.push(ApplyResult {
+                index: entry.index(),
+                succeeded: tells_success(&journaled),
+            })?;
+            records.push(journaled)?;
+        }
+        Ok(Applied { records, results })
+    }
+
+    /// Takes on entries in order, and answers the word of the region of their records, and their results.
+    pub fn journal(&mut self, alloc: Global, chunk: &[Entry]) -> Result<Journaled, AllocError>
+        requires { out_of_order (self.old).mark.index chunk.now ≡ None }
+        ensures map { OnOk result (self.new ≡ map_applied_all self.old chunk.now) }
+        ensures payload { IfOk result (λ journaled. journaled.payload.items ≡ state_region_word (Records (all_recorded self.old chunk.now))) }
+        ensures means { IfOk result (λ journaled. map_after_payload self.old journaled.payload.items ≡ Some self.new) }
+        ensures results { IfOk result (λ journaled. journaled.results.items ≡ results_of self.old chunk.now) }
+    {
+        let applied = self.apply_all(alloc, chunk)?;
+        let mut payload = Vec::new(alloc);
+        write_records(&applied.records, &mut payload)?;
+        Ok(Journaled {
+            payload,
+            results: applied.results,
+        })
+    }
+}

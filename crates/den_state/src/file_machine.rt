@@ -1,0 +1,197 @@
+//! The state machine in files.
+ghost use Rattle.std.specs.Prelude.{◌≡◌, ◌<◌, ◌↔◌, ◌∷◌, ◌++◌, ℕ, List, [], false, None, Ok, Err, IsTrue, IfOk, IfErr, OnOk, length, option_map};
+ghost use Rattle.den_disk.specs.declared.place.Family.TheVariants.{State as state_family};
+ghost use Rattle.den_disk.specs.Goes.{Rose, DiskGoesOn};
+ghost use Rattle.den_disk.specs.Families.{SparesAll, SparesOthers, SparesImages, NoNewImages, OldOrNew};
+ghost use Rattle.den_model.specs.Image.{map_in};
+ghost use Rattle.den_model.specs.MapState.{map_applied_all, results_of, part_of};
+ghost use Rattle.den_model.specs.Apply.{value_at};
+ghost use Rattle.den_model.specs.declared.region.StateRegion.TheVariants.{Records};
+ghost use Rattle.den_model.specs.Spelling.{state_region_word};
+ghost use Rattle.den_gate.specs.Gate.{payloads};
+ghost use Rattle.den_state.specs.Chunk.{out_of_order, asks_lease, IsChunkRefusal};
+ghost use Rattle.den_state.specs.Journal.{all_recorded};
+ghost use Rattle.den_state.specs.Machine.{IsReady, Rests, IsDurable, IsOpeningRefusal, OnUntouched, journaled, map_held, state_error};
+ghost use Rattle.den_state.specs.Laws.{rests_spared, held_own, rests_image};
+
+use crate::StateMachine;
+use crate::chunk::{asks_lease, out_of_order};
+use crate::fold::ListError;
+use crate::map::Map;
+use den_codec::{ApplyResult, Blob, Entry, Error, LogId, Rows};
+use den_disk::{Disk, Family, Place};
+use den_gate::{GateError, GateFile};
+use std::alloc::Global;
+
+/// A map in memory, whose journal is the gate file of the State family.
+#[derive(Drop)]
+pub struct FileStateMachine {
+    alloc: Global,
+    gate: GateFile,
+    map: Map,
+    failed: bool,
+}
+
+// A refusal of the State family's gate file.
+fn state_error(error: GateError) -> Error
+    ensures { result ≡ state_error error }
+{
+    match error {
+        GateError::OutOfMemory => Error::OutOfMemory,
+        GateError::StorageIoError => Error::StorageIoError,
+        GateError::Full { needed, limit } => Error::DiskFull { needed, limit },
+        GateError::DataCorruption { part, offset } => {
+            let place = Place {
+                family: Family::State,
+                part,
+            };
+            Error::DataCorruption {
+                place: place.number() as u8,
+                offset,
+            }
+        }
+    }
+}
+
+impl FileStateMachine {
+    /// The map that the files give. All files are on the disk then.
+    pub fn new<D: Disk>(alloc: Global, disk: &mut D) -> Result<FileStateMachine, Error>
+        ensures disk { DiskGoesOn D.kind D.moment D.images D.faults disk.old disk.new }
+        ensures images { IsTrue (D.kind disk.old).tells → NoNewImages (D.images disk.old) (D.images disk.new) (D.moment disk.old) (D.moment disk.new) }
+        ensures spares { IsTrue (D.kind disk.old).tells → SparesAll (D.content disk.old) (D.content disk.new) }
+        ensures synced { IsTrue (D.kind disk.old).tells → IsDurable result (D.content disk.new) }
+        ensures opened { IsTrue (D.kind disk.old).tells → IfOk result (λ s. map_in (D.content disk.old).reading ≡ Ok s.map) }
+        ensures ready { IfOk result IsReady }
+        ensures rests { IsTrue (D.kind disk.old).tells → IfOk result (λ s. Rests s (D.content disk.new)) }
+        ensures refused { IfErr result (IsOpeningRefusal (Rose (D.faults disk.old) (D.faults disk.new)) (D.kind disk.old).tells (D.content disk.old).reading) }
+    {
+        let gate = match GateFile::load(Family::State, disk) {
+            Ok(gate) => gate,
+            Err(error) => return Err(state_error(error)),
+        };
+        let list = match gate.regions(alloc, disk) {
+            Ok(list) => list,
+            Err(error) => return Err(state_error(error)),
+        };
+        let mut map = Map::at(alloc, LogId { index: 0, term: 0 });
+        match map.add_list(alloc, list.as_slice()) {
+            Ok(()) => Ok(FileStateMachine {
+                alloc,
+                gate,
+                map,
+                failed: false,
+            }),
+            Err(ListError::Memory) => Err(Error::OutOfMemory),
+            Err(ListError::Unlawful { offset }) => Err(state_error(GateError::DataCorruption {
+                part: gate.part(),
+                offset,
+            })),
+        }
+    }
+
+    // Applies entries that are in order and have no time to live: one region of records, whatever becomes of it.
+    fn commit<D: Disk>(&mut self, disk: &mut D, chunk: &[Entry]) -> Result<Rows<ApplyResult>, Error>
+        requires ready { IsReady self.old }
+        requires rests { IsTrue (D.kind disk.old).tells → Rests self.old (D.content disk.old) }
+        requires in_order { out_of_order (self.old).map.mark.index chunk.now ≡ None }
+        requires lease { asks_lease chunk.now ≡ false }
+        ensures disk { DiskGoesOn D.kind D.moment D.images D.faults disk.old disk.new }
+        ensures own { IsTrue (D.kind disk.old).tells → OldOrNew map_held (D.images disk.new) (D.moment disk.old) (D.moment disk.new) (self.old).map (map_applied_all (self.old).map chunk.now) }
+        ensures others { IsTrue (D.kind disk.old).tells → SparesImages state_family (D.images disk.old) (D.images disk.new) (D.moment disk.old) (D.moment disk.new) }
+        ensures spares { IsTrue (D.kind disk.old).tells → SparesOthers state_family (D.content disk.old) (D.content disk.new) }
+        ensures applied { OnOk result ((self.new).map ≡ map_applied_all (self.old).map chunk.now) }
+        ensures results { IfOk result (λ results. results ≡ results_of (self.old).map chunk.now) }
+        ensures ready { OnOk result (IsReady self.new) }
+        ensures rests { OnOk result (IsTrue (D.kind disk.old).tells → Rests self.new (D.content disk.new)) }
+        ensures appended { OnOk result (IsTrue (D.kind disk.old).tells →
+            payloads (self.new).gate (D.content disk.new).reading ≡ payloads (self.old).gate (D.content disk.old).reading ++ state_region_word (Records (all_recorded (self.old).map chunk.now)) ∷ []) }
+        ensures refused { IfErr result (IsChunkRefusal (Rose (D.faults disk.old) (D.faults disk.new)) (D.kind disk.old).limit (self.old).map.mark.index chunk.now) }
+    {
+        self.failed = true;
+        let journaled = self.map.journal(self.alloc, chunk)?;
+        match self.gate.append(disk, &journaled.payload) {
+            Ok(()) => {
+                self.failed = false;
+                Ok(Rows::of(journaled.results))
+            }
+            Err(error) => Err(state_error(error)),
+        }
+    }
+
+    /// How many pairs the map has.
+    pub fn len(&self) -> usize
+        ensures { result ≡ length self.now.map.pairs }
+    {
+        self.map.len()
+    }
+
+    /// Whether a key has an expiry.
+    pub fn holds_expiry(&self) -> bool
+        ensures { IsTrue result ↔ (0 < length self.now.map.expiries) }
+    {
+        0 < self.map.expiry_count()
+    }
+
+    /// Whether a call failed after it had begun to change the map. It is opened anew then.
+    pub fn is_failed(&self) -> bool
+        ensures { IsTrue result ↔ (IsReady self.now → ⊥) }
+    {
+        self.failed || self.gate.is_failed()
+    }
+}
+
+impl<D: Disk> StateMachine<D> for FileStateMachine {
+    ghost map = { λ s. s.map };
+
+    ghost holds = { map_held };
+
+    ghost rests = { Rests };
+
+    ghost ready = { IsReady };
+
+    ghost rests_own = { rests_spared };
+
+    ghost holds_own = { held_own };
+
+    ghost rests_hold = { λ s c files ready rests image. rests_image s c files rests image };
+
+    /// A chunk that is refused for its order or for want of a lease leaves all as it was, as does one without entries.
+    /// Any other adds one region to the journal.
+    fn apply_chunk(&mut self, disk: &mut D, chunk: &[Entry]) -> Result<Rows<ApplyResult>, Error>
+        requires ready { IsReady self.old }
+        requires rests { IsTrue (D.kind disk.old).tells → Rests self.old (D.content disk.old) }
+        ensures disk { DiskGoesOn D.kind D.moment D.images D.faults disk.old disk.new }
+        ensures own { IsTrue (D.kind disk.old).tells → OldOrNew map_held (D.images disk.new) (D.moment disk.old) (D.moment disk.new) (self.old).map (map_applied_all (self.old).map chunk.now) }
+        ensures others { IsTrue (D.kind disk.old).tells → SparesImages state_family (D.images disk.old) (D.images disk.new) (D.moment disk.old) (D.moment disk.new) }
+        ensures spares { IsTrue (D.kind disk.old).tells → SparesOthers state_family (D.content disk.old) (D.content disk.new) }
+        ensures applied { OnOk result ((self.new).map ≡ map_applied_all (self.old).map chunk.now) }
+        ensures results { IfOk result (λ results. results ≡ results_of (self.old).map chunk.now) }
+        ensures in_order { OnOk result ((out_of_order (self.old).map.mark.index chunk.now ≡ None) × (asks_lease chunk.now ≡ false)) }
+        ensures ready { OnOk result (IsReady self.new) }
+        ensures rests { OnOk result (IsTrue (D.kind disk.old).tells → Rests self.new (D.content disk.new)) }
+        ensures refused { IfErr result (IsChunkRefusal (Rose (D.faults disk.old) (D.faults disk.new)) (D.kind disk.old).limit (self.old).map.mark.index chunk.now) }
+        ensures untouched { IfErr result (OnUntouched ((self.new ≡ self.old) × (disk.new ≡ disk.old))) }
+        ensures nothing { chunk.now ≡ [] → (self.new ≡ self.old) × (disk.new ≡ disk.old) }
+        ensures appended { OnOk result (IsTrue (D.kind disk.old).tells →
+            payloads (self.new).gate (D.content disk.new).reading ≡ payloads (self.old).gate (D.content disk.old).reading ++ journaled (self.old).map chunk.now) }
+    {
+        if let Some(index) = out_of_order(self.map.mark().index, chunk) {
+            return Err(Error::UnorderedChunk { index });
+        }
+        if asks_lease(chunk) {
+            return Err(Error::FeatureNotEnabled);
+        }
+        if chunk.is_empty() {
+            return Ok(Rows::of(Vec::new(self.alloc)));
+        }
+        self.commit(disk, chunk)
+    }
+
+    fn get(&self, key: &[u8]) -> Option<&Blob> {
+        self.map.get(key)
+    }
+
+    fn last_applied(&self) -> LogId {
+        self.map.mark()
+    }
+}

@@ -1,0 +1,194 @@
+//! The map in memory, and what a record of the journal does to it.
+ghost use Rattle.std.specs.Prelude.{◌≡◌, ◌<◌, ◌≤◌, ℕ, List, [], length, Option, option_map, Some, None, IfOk, OnOk, nat_eq, is_some};
+ghost use Rattle.std.specs.Option.{option_eq};
+ghost use Rattle.std.specs.Cmp.Lexicographic.{pointwise};
+ghost use Rattle.den_model.specs.Apply.{value_at, seconds_after, kept_pairs, kept_expiries};
+ghost use Rattle.den_model.specs.MapState.{MapState, empty_map, part_of, with_pair};
+ghost use Rattle.den_state.specs.Fold.{carried};
+ghost use Rattle.den_state.specs.Journal.{expiry_of, recorded};
+
+use crate::ByteMap;
+use den_codec::{Blob, Command, Entry, Held, JournalRecord, LogId, Positive};
+use std::alloc::{AllocError, Global};
+use std::marker::Model;
+
+/// Pairs and expiries, and the mark: the place of the last entry that they hold.
+#[derive(Drop)]
+pub struct Map {
+    pairs: ByteMap<Held>,
+    expiries: ByteMap<u64>,
+    mark: LogId,
+}
+
+impl Model for Map {
+    ghost use Rattle.den_model.specs.MapState.{MapState};
+
+    ghost Value = { MapState };
+
+    ghost view = { λ m. record { pairs = m.pairs; expiries = m.expiries; mark = m.mark } };
+}
+
+// When a time to live that begins at a moment ends, in milliseconds. 0 is never.
+fn expiry_of(moment: u64, ttl_secs: Option<u64>) -> u64
+    ensures { result ≡ expiry_of moment ttl_secs }
+{
+    match ttl_secs {
+        None => 0,
+        Some(seconds) => moment.saturating_add(seconds.saturating_mul(1000)),
+    }
+}
+
+impl Map {
+    /// No pair and no expiry, and this mark.
+    pub fn at(alloc: Global, mark: LogId) -> Map
+        ensures { result ≡ record { pairs = []; expiries = []; mark = mark } }
+    {
+        Map {
+            pairs: ByteMap::new(alloc),
+            expiries: ByteMap::new(alloc),
+            mark,
+        }
+    }
+
+    /// The value at the key.
+    pub fn get(&self, key: &[u8]) -> Option<&Blob>
+        ensures { option_map (λ b. b.now) result ≡ value_at (part_of self.now 0) key.now }
+    {
+        match self.pairs.get(key) {
+            None => None,
+            Some(held) => Some(&held.value),
+        }
+    }
+
+    /// The place of the last entry.
+    pub fn mark(&self) -> LogId
+        ensures { result ≡ self.now.mark }
+    {
+        self.mark
+    }
+
+    /// Moves the mark.
+    pub fn set_mark(&mut self, mark: LogId)
+        ensures { self.new ≡ record self.old { mark = mark } }
+    {
+        self.mark = mark;
+    }
+
+    /// How many pairs there are.
+    pub fn len(&self) -> usize
+        ensures { result ≡ length self.now.pairs }
+    {
+        self.pairs.len()
+    }
+
+    /// How many keys have an expiry.
+    pub fn expiry_count(&self) -> usize
+        ensures { result ≡ length self.now.expiries }
+    {
+        self.expiries.len()
+    }
+
+    // Whether the key has the expected value, or is absent where none is expected.
+    fn has(&self, key: &Blob, expected: &Option<Blob>) -> bool
+        ensures { result ≡ option_eq (pointwise nat_eq) expected.now (value_at (part_of self.now 0) key.now) }
+    {
+        match (expected, self.get(key.as_slice())) {
+            (None, None) => true,
+            (Some(expected), Some(value)) => expected.as_slice() == value.as_slice(),
+            _ => false,
+        }
+    }
+
+    /// The record of an entry: a swap's is its outcome.
+    pub fn record_of(&self, entry: &Entry) -> Result<JournalRecord, AllocError>
+        ensures { IfOk result (λ r. r ≡ recorded self.now entry.now) }
+    {
+        let index = Positive::of(entry.index());
+        let term = entry.term();
+        let record = match entry.command() {
+            Command::Noop => JournalRecord::Noop { index, term },
+            Command::Insert {
+                key,
+                value,
+                ttl_secs,
+            } => JournalRecord::Insert {
+                index,
+                term,
+                key: key.copy()?,
+                value: value.copy()?,
+                expiry: expiry_of(entry.moment(), *ttl_secs),
+            },
+            Command::Delete { key } => JournalRecord::Delete {
+                index,
+                term,
+                key: key.copy()?,
+            },
+            Command::CompareAndSwap {
+                key,
+                expected,
+                value,
+            } => {
+                if self.has(key, expected) {
+                    JournalRecord::Insert {
+                        index,
+                        term,
+                        key: key.copy()?,
+                        value: value.copy()?,
+                        expiry: 0,
+                    }
+                } else {
+                    JournalRecord::CasFailed { index, term }
+                }
+            }
+        };
+        Ok(record)
+    }
+
+    /// Sets a pair, and its expiry where that is not 0.
+    pub fn set_pair(
+        &mut self,
+        alloc: Global,
+        key: &Blob,
+        held: Held,
+        expiry: u64,
+    ) -> Result<(), AllocError>
+        ensures { OnOk result (self.new ≡ with_pair self.old key.now held.value held.term expiry) }
+    {
+        self.pairs.insert(alloc, key.as_slice(), held)?;
+        if expiry != 0 {
+            self.expiries.insert(alloc, key.as_slice(), expiry)?;
+        }
+        Ok(())
+    }
+
+    /// What a record does to pairs and expiries.
+    pub fn carry_out(&mut self, alloc: Global, journaled: &JournalRecord) -> Result<(), AllocError>
+        ensures { OnOk result (self.new ≡ carried self.old journaled.now) }
+    {
+        match journaled {
+            JournalRecord::Noop { .. } | JournalRecord::CasFailed { .. } => {}
+            JournalRecord::Insert {
+                term,
+                key,
+                value,
+                expiry,
+                ..
+            } => {
+                let held = Held {
+                    value: value.copy()?,
+                    term: *term,
+                };
+                self.set_pair(alloc, key, held, *expiry)?;
+            }
+            JournalRecord::Delete { key, .. } => {
+                self.pairs.remove(key.as_slice());
+                self.expiries.remove(key.as_slice());
+            }
+            JournalRecord::Cleanup { moment } => {
+                self.pairs.drop_expired(&self.expiries, moment.get());
+                self.expiries.drop_until(moment.get());
+            }
+        }
+        Ok(())
+    }
+}

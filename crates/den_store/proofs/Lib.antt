@@ -1,0 +1,5 @@
+pub mod HeldLogs
+pub mod Joins
+pub mod Opens
+pub mod Owned
+pub mod Rising

@@ -1,0 +1,210 @@
+// A log in memory: a boundary, and the entries above it in the order of their indices.
+ghost use Rattle.std.specs.Prelude.{◌≡◌, ◌+◌, ◌≤◌, true, length, take, drop, filter, nat_le, vec_len, vec_capacity, OnOk, IfOk};
+ghost use Rattle.den_model.specs.Entries.{rise_above, rise_from, begin_from};
+ghost use Rattle.den_model.specs.Log.{empty_log, floor, below, above, between, replaced, changed, is_lawful, last_index};
+ghost use Rattle.den_model.specs.Words.{FitsLogRegion};
+ghost use Rattle.den_model.specs.Spelling.{log_region_word};
+ghost use Rattle.den_model.specs.declared.region.LogRegion.TheVariants.{Append, Truncate, Purge, Reset};
+ghost use Rattle.den_store.specs.Order.{IsInOrder};
+
+use crate::copies::copied;
+use den_codec::{Entry, LogId, LogRegion, Rows, write_append};
+use std::alloc::{AllocError, Global};
+
+#[derive(Drop)]
+pub(crate) struct HeldLog {
+    boundary: Option<LogId>,
+    entries: Vec<Entry>,
+    ghost order: { IsInOrder (record { boundary = boundary; entries = entries.items }) },
+}
+
+// What an append needs.
+#[derive(Drop)]
+pub(crate) struct Prepared {
+    pub(crate) copies: Vec<Entry>,
+    pub(crate) word: Vec<u8>,
+}
+
+impl HeldLog {
+    ghost use Rattle.den_store.specs.Held.{log_of};
+
+    pub(crate) fn empty(alloc: Global) -> HeldLog
+        ensures { log_of result ≡ empty_log }
+    {
+        HeldLog {
+            boundary: None,
+            entries: Vec::new(alloc),
+        }
+    }
+
+    // The boundary's index, or 0.
+    fn floor(&self) -> u64
+        ensures { result ≡ floor (log_of self.now) }
+    {
+        match self.boundary {
+            None => 0,
+            Some(boundary) => boundary.index,
+        }
+    }
+
+    pub(crate) fn boundary(&self) -> Option<LogId>
+        ensures { result ≡ (log_of self.now).boundary }
+    {
+        self.boundary
+    }
+
+    pub(crate) fn last_index(&self) -> u64
+        ensures { result ≡ last_index (log_of self.now) }
+    {
+        match self.entries.last() {
+            None => self.floor(),
+            Some(entry) => entry.index(),
+        }
+    }
+
+    // Whether a region may stand here.
+    pub(crate) fn admits(&self, region: &LogRegion) -> bool
+        ensures { result ≡ is_lawful (log_of self.now) region.now }
+    {
+        match region {
+            LogRegion::Append { entries } => entries.as_slice()[0].index() > self.floor(),
+            LogRegion::Replace { replacement } => {
+                self.boundary.is_none() || self.floor() < replacement.from()
+            }
+            LogRegion::Truncate { .. } | LogRegion::Purge { .. } | LogRegion::Reset => true,
+        }
+    }
+
+    // Makes room for so many entries more.
+    pub(crate) fn reserve(&mut self, count: usize) -> Result<(), AllocError>
+        ensures log { log_of self.new ≡ log_of self.old }
+        ensures room { OnOk result (vec_len self.new.entries + count ≤ vec_capacity self.new.entries) }
+    {
+        self.entries.reserve(count)
+    }
+
+    // Takes all the memory that an append of these entries takes: room for them, copies of them, and the word of the
+    // region that appends them.
+    pub(crate) fn prepare(
+        &mut self,
+        alloc: Global,
+        entries: &[Entry],
+    ) -> Result<Prepared, AllocError>
+        requires some { 1 ≤ length entries.now }
+        requires rise { rise_from 1 entries.now ≡ true }
+        ensures log { log_of self.new ≡ log_of self.old }
+        ensures copies { IfOk result (λ p. p.copies.items ≡ entries.now) }
+        ensures word { IfOk result (λ p. p.word.items ≡ log_region_word (Append entries.now)) }
+        ensures fits { OnOk result (FitsLogRegion (Append entries.now)) }
+        ensures room { IfOk result (λ p. vec_len self.new.entries + vec_len p.copies ≤ vec_capacity self.new.entries) }
+    {
+        let copies = copied(alloc, entries)?;
+        let mut word = Vec::new(alloc);
+        write_append(entries, &mut word)?;
+        self.reserve(copies.len())?;
+        Ok(Prepared { copies, word })
+    }
+
+    // The held entries from one index up to another.
+    pub(crate) fn range(
+        &self,
+        alloc: Global,
+        first: u64,
+        last: u64,
+    ) -> Result<Rows<Entry>, AllocError>
+        ensures { IfOk result (λ entries. entries ≡ between first last (log_of self.now).entries) }
+    {
+        let entries = self.entries.as_slice();
+        let to = count_to(entries, last);
+        let entries = &entries[..to];
+        let from = count_below(entries, first);
+        Ok(Rows::of(copied(alloc, &entries[from..])?))
+    }
+
+    // The entries from an index on give way to these. Takes no memory.
+    pub(crate) fn replace(&mut self, from: u64, mut entries: Vec<Entry>)
+        requires rise { rise_above (floor (log_of self.old)) entries.items ≡ true }
+        requires begin { begin_from from entries.items ≡ true }
+        requires room { vec_len self.old.entries + vec_len entries ≤ vec_capacity self.old.entries }
+        ensures { log_of self.new ≡ replaced (log_of self.old) from entries.items }
+    {
+        let kept = count_below(self.entries.as_slice(), from);
+        self.entries.truncate(kept);
+        let appended = self.entries.append(&mut entries);
+        prove!(appended.is_ok());
+    }
+
+    fn truncate(&mut self, from: u64)
+        ensures { log_of self.new ≡ changed (log_of self.old) (Truncate from) }
+    {
+        let kept = count_below(self.entries.as_slice(), from);
+        self.entries.truncate(kept);
+    }
+
+    fn purge(&mut self, index: u64, term: u64)
+        ensures { log_of self.new ≡ changed (log_of self.old) (Purge index term) }
+    {
+        if self.floor() < index {
+            let gone = count_to(self.entries.as_slice(), index);
+            self.entries.drain(..gone);
+            self.boundary = Some(LogId { index, term });
+        }
+    }
+
+    fn reset(&mut self)
+        ensures { log_of self.new ≡ changed (log_of self.old) Reset }
+    {
+        self.entries.clear();
+        self.boundary = None;
+    }
+}
+
+impl HeldLog {
+    ghost use Rattle.den_store.specs.Held.{log_of};
+
+    // What a region makes of the log.
+    pub(crate) fn take(&mut self, region: LogRegion) -> Result<(), AllocError>
+        requires lawful { is_lawful (log_of self.old) region ≡ true }
+        requires fits { FitsLogRegion region }
+        ensures { OnOk result (log_of self.new ≡ changed (log_of self.old) region) }
+    {
+        match region {
+            LogRegion::Append { entries } => {
+                let from = entries.as_slice()[0].index();
+                let entries = entries.into_items();
+                self.reserve(entries.len())?;
+                self.replace(from, entries);
+            }
+            LogRegion::Truncate { from } => self.truncate(from),
+            LogRegion::Purge { index, term } => self.purge(index.get(), term),
+            LogRegion::Replace { replacement } => {
+                let from = replacement.from();
+                let entries = replacement.into_items();
+                self.reserve(entries.len())?;
+                self.replace(from, entries);
+            }
+            LogRegion::Reset => self.reset(),
+        }
+        Ok(())
+    }
+}
+
+// How many of these entries, which rise, have an index below this one.
+fn count_below(entries: &[Entry], index: u64) -> usize
+    requires { rise_above 0 entries.now ≡ true }
+    ensures bound { result ≤ length entries.now }
+    ensures front { take result entries.now ≡ below index entries.now }
+    ensures rest { drop result entries.now ≡ filter (λ e. nat_le index e.index) entries.now }
+{
+    entries.partition_point(|entry| entry.index() < index)
+}
+
+// How many of these entries, which rise, have an index up to this one.
+fn count_to(entries: &[Entry], index: u64) -> usize
+    requires { rise_above 0 entries.now ≡ true }
+    ensures bound { result ≤ length entries.now }
+    ensures front { take result entries.now ≡ filter (λ e. nat_le e.index index) entries.now }
+    ensures rest { drop result entries.now ≡ above index entries.now }
+{
+    entries.partition_point(|entry| entry.index() <= index)
+}

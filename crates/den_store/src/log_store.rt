@@ -1,0 +1,104 @@
+//! The log store over a gate file.
+ghost use Rattle.std.specs.Prelude.{◌≡◌, IsTrue, Ok, Err, IfOk, IfErr};
+ghost use Rattle.den_disk.specs.declared.place.Family.TheVariants.{Log as log_family};
+ghost use Rattle.den_disk.specs.Place.{place_number};
+ghost use Rattle.den_disk.specs.Goes.{DiskGoesOn, Rose};
+ghost use Rattle.den_disk.specs.Families.{SparesAll, NoNewImages};
+ghost use Rattle.den_model.specs.Image.{slot_of, log_in};
+ghost use Rattle.den_store.specs.FileLog.{file_log, file_place, log_held, IsLogReady, LogRests, log_rests_own, log_holds_own, log_rests_hold};
+ghost use Rattle.den_store.specs.Folding.{IsUnread};
+ghost use Rattle.den_store.specs.Opening.{IsSettled};
+
+use crate::LogStore;
+use crate::held_log::HeldLog;
+use crate::replay::replay_log;
+use crate::family::{file_number, load, refusal};
+use den_codec::{Entry, Error, LogId, Rows};
+use den_disk::{Disk, Family};
+use den_gate::GateFile;
+use std::alloc::Global;
+
+/// A log in memory, and in a file of the changes that made it.
+#[derive(Drop)]
+pub struct FileLogStore {
+    alloc: Global,
+    gate: GateFile,
+    held: HeldLog,
+}
+
+impl FileLogStore {
+    /// Opens the log's files, whatever they are, after a sync of all files. `DataCorruption` names the slot in use, and
+    /// the gate of the first region that runs past the end, or else of the first that is no lawful word.
+    pub fn new<D: Disk>(alloc: Global, disk: &mut D) -> Result<FileLogStore, Error>
+        ensures disk { DiskGoesOn D.kind D.moment D.images D.faults disk.old disk.new }
+        ensures images { IsTrue (D.kind disk.old).tells → NoNewImages (D.images disk.old) (D.images disk.new) (D.moment disk.old) (D.moment disk.new) }
+        ensures spares { IsTrue (D.kind disk.old).tells → SparesAll (D.content disk.old) (D.content disk.new) }
+        ensures settled { IsTrue (D.kind disk.old).tells → IsSettled result (D.content disk.old) (D.content disk.new) }
+        ensures opened { IsTrue (D.kind disk.old).tells → IfOk result (λ s. log_in (D.content disk.old).reading ≡ Ok (file_log s)) }
+        ensures place { IsTrue (D.kind disk.old).tells → IfOk result (λ s. file_place s ≡ place_number (slot_of log_family (D.content disk.old).reading)) }
+        ensures ready { IfOk result IsLogReady }
+        ensures rests { IsTrue (D.kind disk.old).tells → IfOk result (λ s. LogRests s (D.content disk.new)) }
+        ensures refused { IfErr result (IsUnread (Rose (D.faults disk.old) (D.faults disk.new)) (λ place offset. IsTrue (D.kind disk.old).tells →
+            (place ≡ place_number (slot_of log_family (D.content disk.old).reading)) × (log_in (D.content disk.old).reading ≡ Err offset))) }
+    {
+        let loaded = load(alloc, Family::Log, disk)?;
+        let place = file_number(Family::Log, loaded.gate.part());
+        let held = replay_log(alloc, loaded.payloads.as_slice(), place)?;
+        Ok(FileLogStore {
+            alloc,
+            gate: loaded.gate,
+            held,
+        })
+    }
+}
+
+impl<D: Disk> LogStore<D> for FileLogStore {
+    ghost log = { file_log };
+
+    ghost holds = { log_held };
+
+    ghost rests = { LogRests };
+
+    ghost ready = { IsLogReady };
+
+    ghost place = { file_place };
+
+    ghost in_order = { λ s. s.held.order };
+
+    ghost rests_own = { log_rests_own };
+
+    ghost holds_own = { log_holds_own };
+
+    ghost rests_hold = { λ s c files ready rests image. log_rests_hold s c files rests image };
+
+    fn persist_entries(&mut self, disk: &mut D, entries: &[Entry]) -> Result<(), Error> {
+        let Some(first) = entries.first() else {
+            return Ok(());
+        };
+        let from = first.index();
+        let prepared = self.held.prepare(self.alloc, entries)?;
+        match self.gate.append(disk, prepared.word.as_slice()) {
+            Ok(()) => {
+                self.held.replace(from, prepared.copies);
+                Ok(())
+            }
+            Err(error) => Err(refusal(Family::Log, error)),
+        }
+    }
+
+    fn get_entries(&self, first: u64, last: u64) -> Result<Rows<Entry>, Error> {
+        Ok(self.held.range(self.alloc, first, last)?)
+    }
+
+    fn load_purge_boundary(&self) -> Option<LogId> {
+        self.held.boundary()
+    }
+
+    fn place(&self) -> u8 {
+        file_number(Family::Log, self.gate.part())
+    }
+
+    fn last_index(&self) -> u64 {
+        self.held.last_index()
+    }
+}
