@@ -19,7 +19,7 @@ frames-init g c = record {
       let disk = c.args.disk.now in
       let s = c.args.stepper.now in
       begins g.S.Stepper.holds _ _ _ (g.C.Clock.readings c.args.clock.now) (g.L.Link.sent c.args.link.now) _ (stands_now _ _ _ (g.D.Disk.content disk) _ (λ files. g.met.D.Disk.images_now disk files told.disk_tells)
-          (λ files. g.met.S.Stepper.rests_hold s (g.D.Disk.content disk) files c.requires.ready (c.requires.rests told.disk_tells)));
+      (λ files. g.met.S.Stepper.rests_hold s (g.D.Disk.content disk) files c.requires.ready (c.requires.rests told.disk_tells)));
 }
 
 -- the input is at its end
