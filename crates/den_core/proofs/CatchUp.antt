@@ -1,6 +1,6 @@
 -- The log's entries above the map's mark, and what applying them leaves.
-use Rattle.std.proofs.Common.{◌≡◌, ℕ, suc, ◌≤◌, ◌<◌, ◌+◌, ◌-◌, ◌^◌, ◌&&◌, ◌||◌, ◌==◌, Bool, true, false, List, [], ◌∷◌, length, get_or, Option, Some, None, IsSome, cond, nat_le, nat_lt, if◌then◌else◌, inl, inr, ⊎_elim, refl, sym, ◌∙◌, ap, subst, arith}
-use Rattle.std.proofs.lemmas.Bool.{cases_lt, eq-eqb, le-leb, lt-leb, le-ltb, lt-ltb, eqb-true, ltb-true, leb-true}
+use Rattle.std.proofs.Common.{◌≡◌, ℕ, suc, ◌≤◌, ◌<◌, ◌+◌, ◌-◌, ◌^◌, ◌&&◌, ◌||◌, ◌==◌, Bool, true, false, List, [], ◌∷◌, length, get_or, Option, Some, None, IsSome, Result, Ok, Err, IfErr, cond, nat_le, nat_lt, if◌then◌else◌, inl, inr, refl, sym, ◌∙◌, ap, subst, arith}
+use Rattle.std.proofs.lemmas.Bool.{cases_lt, le-leb, lt-leb, le-ltb, lt-ltb, eqb-true, ltb-true, leb-true}
 use Rattle.den_model.specs.declared.command.Command.{Command}
 use Rattle.den_model.specs.declared.command.Command.TheVariants.{Noop, Insert, Delete, CompareAndSwap}
 use Rattle.den_model.specs.declared.log_id.HardState.{HardState}
@@ -9,11 +9,12 @@ use Rattle.den_model.specs.Entries.{LogEntry, rise_above}
 use Rattle.den_model.specs.Image.{durable, term_of, run_from, applied_all}
 use Rattle.den_model.specs.Kv.{Durable}
 use Rattle.den_model.specs.Log.{Log, floor, above, between, last_index, last_of}
-use Rattle.den_model.specs.MapState.{MapState, part_of, map_applied, map_applied_all}
+use Rattle.den_model.specs.MapState.{MapState, map_applied, map_applied_all}
 use Rattle.den_state.specs.Chunk.{asks_lease, out_of_order}
 use Rattle.den_store.specs.Order.{IsInOrder}
 use Rattle.den_core.specs.Joined.{durable_is, found_is}
-use Rattle.den_core.specs.Opening.{agrees, is_exhausted, opening_refusal, refusal_by, refusal_for, IsLeft}
+use Rattle.den_core.specs.Opening.{agrees, is_exhausted, opening_refusal, refusal_by, refusal_for, IsLeft, IsOpeningFailure}
+use Rattle.den_store.specs.Causes.{IsRefusal}
 use Rattle.den_codec.specs.declared.error.Error.{Error}
 use Rattle.den_core.specs.Parts.{durable_of, IsCaughtUp}
 use Rattle.den_core.proofs.Durables.{AllUpTo, none_above, up_to_more, applied_is}
@@ -210,3 +211,23 @@ module _ (place : ℕ) (l : Log) (h : Option HardState) (s : MapState) (mark : �
 pub none_some : {X : Type 0} (o : Option X) → o ≡ None → IsSome o → ⊥
 none_some None none some = cc
 none_some (Some x) none some = cc
+
+-- behind the tests only the disk refuses
+pub refused_later : {T : Type 0} (r : Result T Error) (rose : Type 0) (most : ℕ) (refusal : Option Error) → refusal ≡ None
+    → IfErr r (λ e. IsRefusal rose most e) → IfErr r (λ e. IsOpeningFailure rose most refusal e)
+refused_later (Ok x) rose most refusal none is = tt
+refused_later (Err e) rose most refusal none is = inr (inr (none, is))
+
+-- the term and the index of what they stand for
+pub ends_here : (l : Log) (h : Option HardState) (s : MapState) (es : List LogEntry) (d : Durable) → IsLeft l s es → durable l h s ≡ Some d → (d.term ≡ term_of h) × (d.last_index ≡ last_of s.mark.index es)
+ends_here l h s es d left is =
+    let both_are : Some d ≡ Some (applied_all (durable_of h s) es) = sym is ∙ left_is l s es left h in
+    let same : d ≡ applied_all (durable_of h s) es = cc in
+    let ends = ends_of (durable_of h s) es in
+    (ap (λ (x : Durable). x.term) same ∙ ends.0, ap (λ (x : Durable). x.last_index) same ∙ ends.1)
+
+pub room_here : (l : Log) (h : Option HardState) (s : MapState) (mark : ℕ) (es : List LogEntry) (d : Durable) → mark ≡ s.mark.index → IsLeft l s es
+    → (term_of h < 2 ^ 64 - 1) × (last_of mark es < 2 ^ 64 - 1) → durable l h s ≡ Some d → (d.term < 2 ^ 64 - 1) × (d.last_index < 2 ^ 64 - 1)
+room_here l h s mark es d is_mark left room is =
+    let ends = ends_here l h s es d left is in
+    (subst (λ n. n < 2 ^ 64 - 1) (sym ends.0) room.0, subst (λ n. n < 2 ^ 64 - 1) (ap (λ n. last_of n es) is_mark ∙ sym ends.1) room.1)

@@ -1,6 +1,6 @@
 -- What log, hard state and map stand for, after an entry and after a raise.
-use Rattle.std.proofs.Common.{◌≡◌, ℕ, ◌≤◌, ◌<◌, ◌+◌, ◌&&◌, Bool, true, false, List, [], ◌∷◌, ◌++◌, Option, Some, None, nat_lt, nat_le, if◌then◌else◌, cond, inl, inr, refl, sym, ◌∙◌, ap, subst, arith}
-use Rattle.std.proofs.lemmas.Bool.{cases_lt, eq-eqb, le-leb, le-ltb, lt-ltb}
+use Rattle.std.proofs.Common.{◌≡◌, ℕ, ◌≤◌, ◌+◌, ◌&&◌, Bool, true, false, List, [], ◌∷◌, ◌++◌, Option, Some, None, nat_lt, if◌then◌else◌, cond, inl, inr, refl, sym, ◌∙◌, ap, subst, arith}
+use Rattle.std.proofs.lemmas.Bool.{cases_lt, eq-eqb, le-ltb, lt-ltb}
 use Rattle.std.proofs.lemmas.List.Elements.{filter-append}
 use Rattle.den_model.specs.declared.command.Command.{Command}
 use Rattle.den_model.specs.declared.command.Command.TheVariants.{Noop, Insert, Delete, CompareAndSwap}
@@ -8,9 +8,9 @@ use Rattle.den_model.specs.declared.log_id.HardState.{HardState}
 use Rattle.den_model.specs.declared.region.LogRegion.TheVariants.{Append}
 use Rattle.den_model.specs.Apply.{applied, carried_out, succeeds, with_pair}
 use Rattle.den_model.specs.Entries.{LogEntry}
-use Rattle.den_model.specs.Image.{durable, joined, term_of, run_from, applied_all}
+use Rattle.den_model.specs.Image.{durable, term_of}
 use Rattle.den_model.specs.Kv.{Durable}
-use Rattle.den_model.specs.Log.{Log, floor, above, below, changed}
+use Rattle.den_model.specs.Log.{Log, above, below, changed}
 use Rattle.den_model.specs.MapState.{MapState, part_of, map_applied}
 use Rattle.den_model.specs.Step.{next_entry}
 use Rattle.den_model.specs.declared.running.Running.{Running}

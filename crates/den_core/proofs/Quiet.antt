@@ -1,5 +1,5 @@
 -- Steps that are made while nothing is sent, one stretch after the other.
-use Rattle.std.proofs.Common.{◌≡◌, ◌⊎◌, inl, inr, ⊎_elim, ℕ, ◌≤◌, ◌+◌, List, [], ◌∷◌, ◌++◌, length, take, Option, Some, refl, sym, ◌∙◌, ap, subst, arith, append_assoc, length-append}
+use Rattle.std.proofs.Common.{◌≡◌, ⊎_elim, ℕ, ◌≤◌, ◌+◌, List, [], ◌∷◌, ◌++◌, length, take, Option, Some, refl, sym, ◌∙◌, ap, subst, arith, length-append}
 use Rattle.std.proofs.lemmas.Bool.{cases_lt}
 use Rattle.std.proofs.lemmas.List.{take-append-le}
 use Rattle.std.proofs.Math.Seq.{take-append-add}
@@ -10,7 +10,7 @@ use Rattle.den_model.specs.Crash.{IsAfterSome, Survives}
 use Rattle.den_model.specs.Kv.{Durable, Kv}
 use Rattle.den_model.specs.Plan.{after, output}
 use Rattle.den_model.specs.Step.{Step}
-use Rattle.den_model.proofs.Runs.{after_append, output_append}
+use Rattle.den_model.proofs.Runs.{after_append}
 use Rattle.den_core.proofs.Spared.{Gives}
 
 module _ (holds : Files → Option Durable) where

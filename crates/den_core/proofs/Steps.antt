@@ -1,5 +1,5 @@
 -- The opening's steps and a turn's, where no lease is configured.
-use Rattle.std.proofs.Common.{◌≡◌, ℕ, ◌≤◌, ◌+◌, ◌&&◌, ◌++◌, Bool, false, List, [], ◌∷◌, Option, Some, None, nat_le, if◌then◌else◌, refl, sym, ◌∙◌, ap, subst}
+use Rattle.std.proofs.Common.{◌≡◌, ℕ, ◌≤◌, ◌+◌, ◌&&◌, ◌++◌, false, [], ◌∷◌, Option, Some, None, nat_le, if◌then◌else◌, sym, ◌∙◌, ap, subst}
 use Rattle.den_disk.specs.Families.{OldOrNew}
 use Rattle.den_disk.specs.Files.{Files}
 use Rattle.den_model.specs.declared.command.Command.TheVariants as command
@@ -8,7 +8,7 @@ use Rattle.den_model.specs.Apply.{applied}
 use Rattle.den_model.specs.Crash.{Survives}
 use Rattle.den_model.specs.Kv.{Durable, Kv}
 use Rattle.den_model.specs.Plan.{after, opening, turn}
-use Rattle.den_model.specs.Step.{Raise, Noop, Cleanup, Ask, Step, answer, next_entry}
+use Rattle.den_model.specs.Step.{Raise, Noop, Cleanup, Ask, answer, next_entry}
 use Rattle.den_model.specs.declared.log_id.HardState.{HardState}
 use Rattle.den_model.specs.declared.running.Running.{Running}
 use Rattle.den_model.specs.MapState.{MapState}

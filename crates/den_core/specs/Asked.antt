@@ -1,6 +1,5 @@
 -- What a frame comes to: an entry that is committed, or a reply at once.
 use Rattle.std.specs.Prelude.{◌≡◌, ◌<◌, ◌^◌, ◌-◌, ℕ, false}
-use Rattle.den_model.specs.declared.command.Command.{Command}
 use Rattle.den_model.specs.Kv.{Kv}
 use Rattle.den_model.specs.Step.{Outcome, says, carried, has_ttl}
 use Rattle.den_core.specs.declared.ask.Asked.{Asked}

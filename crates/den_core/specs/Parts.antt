@@ -1,5 +1,5 @@
 -- What an engine's three stores hold together, and when they are as an engine wants them.
-use Rattle.std.specs.Prelude.{◌≡◌, ◌≤◌, ◌+◌, ℕ, true, false, List, [], Option, option_map}
+use Rattle.std.specs.Prelude.{◌≡◌, ◌≤◌, ◌+◌, ℕ, true, false, [], Option, option_map}
 use Rattle.den_model.specs.declared.log_id.HardState.{HardState}
 use Rattle.den_model.specs.declared.log_id.VotedFor.{VotedFor}
 use Rattle.den_model.specs.declared.running.Running.{Running}

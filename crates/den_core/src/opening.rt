@@ -1,5 +1,5 @@
 //! The engine over stores as they were opened.
-ghost use Rattle.std.specs.Prelude.{◌≡◌, ◌==◌, ◌||◌, ◌^◌, ◌-◌, ◌+◌, ℕ, IsTrue, List, [], Option, Some, None, OnOk, IfOk, IfErr, IsSome, true, false};
+ghost use Rattle.std.specs.Prelude.{◌≡◌, ◌==◌, ◌||◌, ◌^◌, ◌-◌, ◌+◌, ℕ, IsTrue, List, [], Option, Some, None, OnOk, IfOk, IfErr, IsSome, IfNone, ◌<◌, true, false};
 ghost use Rattle.den_codec.specs.declared.error.Error.TheVariants.{OutOfMemory};
 ghost use Rattle.den_disk.specs.declared.place.Family.TheVariants.{State as state_family};
 ghost use Rattle.den_disk.specs.Families.{OldOrNew, SparesImages, SparesOthers};
@@ -91,7 +91,8 @@ fn agrees<D: Disk, G: LogStore<D>>(log: &G, mark: u64, entries: &[Entry]) -> boo
 
 /// Whether no term or no index is left.
 fn is_exhausted(term: u64, last_index: u64) -> bool
-    ensures { result ≡ ((term == 2 ^ 64 - 1) || (last_index == 2 ^ 64 - 1)) }
+    ensures is { result ≡ ((term == 2 ^ 64 - 1) || (last_index == 2 ^ 64 - 1)) }
+    ensures room { result ≡ false → (term < 2 ^ 64 - 1) × (last_index < 2 ^ 64 - 1) }
 {
     term == u64::MAX || last_index == u64::MAX
 }
@@ -103,8 +104,9 @@ fn refusal<D: Disk, G: LogStore<D>, T: MetaStore<D>>(
     mark: u64,
     entries: &[Entry],
 ) -> Option<Error>
-    ensures { result ≡ refusal_by (G.place log.now) (agrees (G.log log.now) mark entries.now) (asks_lease entries.now)
+    ensures refusal { result ≡ refusal_by (G.place log.now) (agrees (G.log log.now) mark entries.now) (asks_lease entries.now)
         ((term_of (T.hard_state meta.now) == 2 ^ 64 - 1) || (last_of mark entries.now == 2 ^ 64 - 1)) }
+    ensures room { IfNone result ((term_of (T.hard_state meta.now) < 2 ^ 64 - 1) × (last_of mark entries.now < 2 ^ 64 - 1)) }
 {
     if !agrees::<D, G>(log, mark, entries) {
         return Some(Error::DataCorruption {
@@ -204,6 +206,8 @@ pub fn recover<D: Disk, G: LogStore<D>, T: MetaStore<D>, M: StateMachine<D>>(
     ensures running { IfOk result (λ engine. (⟦<Engine<G, T, M> as Stepper<D>>⟧.kv engine).running ≡ running) }
     ensures ready { IfOk result (λ engine. ⟦<Engine<G, T, M> as Stepper<D>>⟧.ready engine) }
     ensures rests { IfOk result (λ engine. IsTrue (D.kind disk.old).tells → ⟦<Engine<G, T, M> as Stepper<D>>⟧.rests engine (D.content disk.new)) }
+    ensures term { IfOk result (λ engine. (⟦<Engine<G, T, M> as Stepper<D>>⟧.kv engine).durable.term < 2 ^ 64 - 1) }
+    ensures index { IfOk result (λ engine. (⟦<Engine<G, T, M> as Stepper<D>>⟧.kv engine).durable.last_index < 2 ^ 64 - 1) }
     ensures unrefused { OnOk result (opening_refusal (G.place log) (G.log log) (T.hard_state meta) (M.map state) ≡ None) }
     ensures refused { IfErr result (λ e. IsOpeningFailure (Rose (D.faults disk.old) (D.faults disk.new)) (D.kind disk.old).limit
         (opening_refusal (G.place log) (G.log log) (T.hard_state meta) (M.map state)) e) }

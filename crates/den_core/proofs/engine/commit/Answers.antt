@@ -1,13 +1,11 @@
-use Rattle.std.proofs.Common.{◌≡◌, ◌+◌, ◌∷◌, [], IsTrue, Some, sym, ap, subst, ◌∙◌}
+use Rattle.std.proofs.Common.{IsTrue, Some, sym, ap, subst, ◌∙◌}
 use Rattle.den_disk.specs.Families.{OldOrNew}
 use Rattle.den_model.specs.Apply.{applied}
-use Rattle.den_model.specs.Entries.{LogEntry}
-use Rattle.den_model.specs.Image.{term_of, joined}
-use Rattle.den_model.specs.Step.{next_entry}
+use Rattle.den_model.specs.Image.{joined}
 use Rattle.den_core.specs.Joined.{durable_is}
-use Rattle.den_core.specs.Parts.{durable_of, kv_of}
+use Rattle.den_core.specs.Parts.{durable_of}
 use Rattle.den_core.proofs.Durables.{logged_is, applied_again, caught_up_now, next_is}
-use Rattle.den_core.proofs.Spared.{Gives, gives_now, spared, apart_own, log_moves, state_moves, moves_then, meta_log, state_log, log_state, meta_state}
+use Rattle.den_core.proofs.Spared.{gives_now, spared, apart_own, log_moves, state_moves, moves_then, meta_log, state_log, log_state, meta_state}
 use Rattle.den_core.proofs.engine.commit.Goals as goal
 
 -- the entry joined the log, or did not

@@ -1,4 +1,3 @@
-use Rattle.std.proofs.Common.{inl, refl, arith}
 use Rattle.den_core.proofs.Spared.{gives_now, gives_old, spares_none}
 use Rattle.den_core.proofs.opening.apply_all.Goals as goal
 

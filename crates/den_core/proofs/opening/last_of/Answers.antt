@@ -1,4 +1,4 @@
-use Rattle.std.proofs.Common.{◌∙◌, sym, arith}
+use Rattle.std.proofs.Common.{◌∙◌, sym}
 use Rattle.den_core.proofs.CatchUp.{last_some}
 use Rattle.den_core.proofs.opening.last_of.Goals as goal
 
