@@ -1,3 +1,4 @@
 pub mod Folder
 pub mod Fresh
+pub mod Opened
 pub mod Runs

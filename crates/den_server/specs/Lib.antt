@@ -1,2 +1,3 @@
-pub mod Empty
 pub mod Causes
+pub mod Empty
+pub mod Fresh

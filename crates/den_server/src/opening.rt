@@ -7,7 +7,13 @@ ghost use Rattle.den_model.specs.Kv.{nothing};
 ghost use Rattle.den_codec.specs.declared.error.Error.TheVariants.{OutOfMemory};
 ghost use Rattle.den_codec.specs.Standard.{entered, running_of};
 ghost use Rattle.den_server.specs.Causes.{IsOpeningRefusal};
+ghost use Rattle.den_disk.specs.Families.{NoNewImages};
+ghost use Rattle.den_store.specs.FileLog.{file_log, IsLogReady, LogRests};
+ghost use Rattle.den_store.specs.FileMeta.{file_state, IsMetaReady, MetaRests};
+ghost use Rattle.den_state.specs.Machine.{IsReady, Rests};
+ghost use Rattle.den_core.specs.Parts.{AllRest};
 ghost use Rattle.den_server.specs.Empty.{is_folder_empty};
+ghost use Rattle.den_server.specs.Fresh.{AllReady, IsFresh};
 
 use crate::nodes::copy_nodes;
 use den_codec::{Error, RaftNodeConfig, Running, Setting};
@@ -34,6 +40,38 @@ fn running_of(alloc: Global, config: &RaftNodeConfig) -> Result<Running, Error>
     Ok(Running::at_entry(alloc, setting, nodes, config.cluster.node_id))
 }
 
+// Log, hard state and map, as the files of a folder gave them.
+#[derive(Drop)]
+struct Stores {
+    log: FileLogStore,
+    meta: FileMetaStore,
+    state: FileStateMachine,
+}
+
+// Opens log, hard state and map, in this order.
+fn open_stores<D: Disk>(alloc: Global, disk: &mut D) -> Result<Stores, Error>
+    ensures disk { DiskGoesOn D.kind D.moment D.images D.faults disk.old disk.new }
+    ensures images { IsTrue (D.kind disk.old).tells → NoNewImages (D.images disk.old) (D.images disk.new) (D.moment disk.old) (D.moment disk.new) }
+    ensures fresh { IfOk result (λ s. IsTrue (D.kind disk.old).tells → is_folder_empty (D.content disk.old).reading ≡ true → IsFresh (file_log s.log) (file_state s.meta) s.state.map) }
+    ensures ready { IfOk result (λ s. AllReady (IsLogReady s.log) (IsMetaReady s.meta) (IsReady s.state)) }
+    ensures rests { IfOk result (λ s. IsTrue (D.kind disk.old).tells → AllRest (LogRests s.log (D.content disk.new)) (MetaRests s.meta (D.content disk.new)) (Rests s.state (D.content disk.new))) }
+    ensures refused { IfErr result (λ e. IsOpeningRefusal (Rose (D.faults disk.old) (D.faults disk.new)) (D.kind disk.old).limit
+        (IsTrue (D.kind disk.old).tells × (is_folder_empty (D.content disk.old).reading ≡ true)) e) }
+{
+    let log = match FileLogStore::new(alloc, disk) {
+        Ok(log) => log,
+        Err(error) => return Err(error),
+    };
+    let meta = match FileMetaStore::new(alloc, disk) {
+        Ok(meta) => meta,
+        Err(error) => return Err(error),
+    };
+    match FileStateMachine::new(alloc, disk) {
+        Ok(state) => Ok(Stores { log, meta, state }),
+        Err(error) => Err(error),
+    }
+}
+
 /// Opens log, hard state and map of a folder, in this order, and brings them together. Over an empty folder the engine
 /// begins with nothing.
 pub fn open_folder<D: Disk>(
@@ -54,8 +92,6 @@ pub fn open_folder<D: Disk>(
         (IsTrue (D.kind disk.old).tells × (is_folder_empty (D.content disk.old).reading ≡ true)) e) }
 {
     let running = running_of(alloc, config)?;
-    let log = FileLogStore::new(alloc, disk)?;
-    let meta = FileMetaStore::new(alloc, disk)?;
-    let state = FileStateMachine::new(alloc, disk)?;
-    recover(alloc, disk, log, meta, state, running)
+    let stores = open_stores(alloc, disk)?;
+    recover(alloc, disk, stores.log, stores.meta, stores.state, running)
 }
