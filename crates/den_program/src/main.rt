@@ -5,9 +5,7 @@ mod serving;
 mod status;
 mod words;
 
-use den_disk::{
-    FolderDisk, HostClock, ListClock, MemDisk, MemLink, MemSource, StdLink, StdSink,
-};
+use den_disk::{FolderDisk, HostClock, ListClock, MemDisk, MemLink, MemSource, StdLink, StdSink};
 use serving::serve_main;
 use std::alloc::Global;
 use std::process::ExitCode;
@@ -37,13 +35,17 @@ fn main(rt: HostRuntime) -> ExitCode {
             let mut disk = FolderDisk::new(&rt, names.folder);
             let mut link = StdLink::new(&rt);
             let mut clock = HostClock::new(&rt);
-            serve_main(alloc, &words, &mut conf, &mut disk, &mut link, &mut clock, &mut errs)
+            serve_main(
+                alloc, &words, &mut conf, &mut disk, &mut link, &mut clock, &mut errs,
+            )
         }
         Ok(None) => {
             let mut disk = MemDisk::new(alloc);
             let mut link = MemLink::new(alloc, Vec::new(alloc), Vec::new(alloc));
             let mut clock = ListClock::new(Vec::new(alloc));
-            serve_main(alloc, &words, &mut conf, &mut disk, &mut link, &mut clock, &mut errs)
+            serve_main(
+                alloc, &words, &mut conf, &mut disk, &mut link, &mut clock, &mut errs,
+            )
         }
         Err(_) => 1,
     };
