@@ -122,7 +122,7 @@ pub failure_refused : (rose rose' : Type 0) (most : ℕ) (empty : Type 0) (place
     → (empty → IsFresh l h s) → IsOpeningFailure rose most (opening_refusal place l h s) e → IsOpeningRefusal rose' most empty e
 failure_refused rose rose' most empty place l h s e grow fresh failure = ⊎_elim
     (λ is. let never : empty → ⊥ = λ here. not_none (opening_refusal place l h s) e is (unrefused place l h s (fresh here)) in
-        refusal_kind (IsOpeningRefusal rose' most empty) place _ (durable l h s) e never never never is)
+    refusal_kind (IsOpeningRefusal rose' most empty) place _ (durable l h s) e never never never is)
     (λ other. ⊎_elim (λ memory. subst (IsOpeningRefusal rose' most empty) (sym memory) (record {})) (λ disk. disk_refused rose rose' most empty e grow disk.1) other)
     failure
 
