@@ -33,6 +33,3 @@ pub use region_words::write_append;
 pub use request_words::read_request;
 pub use state_words::write_records;
 pub use word::Word;
-
-#[cfg(test)]
-mod tests;

@@ -14,7 +14,7 @@ use std::{env, io};
 use words::names_of;
 
 // The words after the program's name.
-fn words_after_name(rt: &impl Env, alloc: Global) -> io::Result<Vec<String>> {
+fn words_after_name(rt: &(impl Env + Alloc), alloc: Global) -> io::Result<Vec<String>> {
     let mut words = Vec::new(alloc);
     for word in env::args(rt)?.skip(1) {
         words.push(word)?;
