@@ -17,7 +17,7 @@ use words::names_of;
 fn words_after_name(rt: &(impl Env + Alloc), alloc: Global) -> io::Result<Vec<String>> {
     let mut words = Vec::new(alloc);
     for word in env::args(rt)?.skip(1) {
-        words.push(word)?;
+        words.push(String::from_str(alloc, word.as_str())?)?;
     }
     Ok(words)
 }

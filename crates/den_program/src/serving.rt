@@ -31,9 +31,10 @@ fn status_of(answer: Result<(), Error>) -> u8
     }
 }
 
-/// Serves the frames of a link from an empty folder, with the default configuration.
-fn serve_folder<D: Disk, L: Link, C: Clock>(
+// Serves the frames of a link from the folder that the words name, where they name one.
+fn serve_words<D: Disk, L: Link, C: Clock>(
     alloc: Global,
+    words: &[String],
     disk: &mut D,
     link: &mut L,
     clock: &mut C,
@@ -56,9 +57,14 @@ fn serve_folder<D: Disk, L: Link, C: Clock>(
     ensures disk { DiskGoesOn D.kind D.moment D.images D.faults disk.old disk.new }
     ensures link { LinkGoesOn L.tells L.sent L.budget L.taken L.faults link.old link.new }
     ensures clock { ClockGoesOn C.tells C.readings clock.old clock.new }
-    ensures status { HasStatus (Rose (D.faults disk.old) (D.faults disk.new)) (Rose (L.faults link.old) (L.faults link.new))
+    ensures usage { (folder_in (map string_bytes words.now) ≡ None) ↔ (result ≡ 2) }
+    ensures untouched { result ≡ 2 → (disk.new ≡ disk.old) × (link.new ≡ link.old) × (clock.new ≡ clock.old) }
+    ensures status { (result ≡ 2 → ⊥) → HasStatus (Rose (D.faults disk.old) (D.faults disk.new)) (Rose (L.faults link.old) (L.faults link.new))
         (IsTrue (D.kind disk.old).tells → is_folder_empty (D.content disk.old).reading ≡ false) (D.kind disk.old).limit result }
 {
+    let Some(_) = folder_word(words) else {
+        return 2;
+    };
     let Ok(config) = RaftNodeConfig::standard(alloc) else {
         return 1;
     };
@@ -119,10 +125,7 @@ pub fn serve_main<D: Disk, L: Link, C: Clock, S: Source, E: Sink>(
     ensures line { IsTrue (E.tells errs.old) → (Rose (E.faults errs.old) (E.faults errs.new) → ⊥) → E.written errs.new ≡ E.written errs.old ++ line_of result }
     ensures line_front { IsTrue (E.tells errs.old) → (front : List ℕ) × IsPrefix front (line_of result) × (E.written errs.new ≡ E.written errs.old ++ front) }
 {
-    let status = match folder_word(words) {
-        Some(_) => serve_folder(alloc, disk, link, clock),
-        None => 2,
-    };
+    let status = serve_words(alloc, words, disk, link, clock);
     tell(errs, status);
     status
 }
