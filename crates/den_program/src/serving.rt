@@ -7,7 +7,7 @@ ghost use Rattle.den_model.specs.Frames.{frames};
 ghost use Rattle.den_model.specs.Image.{durable_in};
 ghost use Rattle.den_model.specs.Plan.{output, plan_over};
 ghost use Rattle.den_server.specs.Empty.{is_folder_empty};
-ghost use Rattle.den_program.specs.Serving.{start, frame_limit, HasStatus};
+ghost use Rattle.den_program.specs.Serving.{start, frame_limit, HasStatus, IsRefusedFolder};
 ghost use Rattle.den_program.specs.Status.{status_of, line_of};
 ghost use Rattle.den_program.specs.Words.{folder_in};
 
@@ -53,14 +53,14 @@ fn serve_words<D: Disk, L: Link, C: Clock>(
         → Survives durable_in (D.images disk.new) (D.moment disk.old) (D.moment disk.new) (added (L.sent link.old) (L.sent link.new))
         start (plan_over start frame_limit (L.left link.old) (added (C.readings clock.old) (C.readings clock.new))) }
     ensures not_empty { IsTrue (D.kind disk.old).tells → is_folder_empty (D.content disk.old).reading ≡ false
-        → (result ≡ 0 → ⊥) × Stays D.content D.moment D.images disk.old disk.new }
+        → (result ≡ 2 → ⊥) → IsRefusedFolder result × Stays D.content D.moment D.images disk.old disk.new × (link.new ≡ link.old) × (clock.new ≡ clock.old) }
     ensures disk { DiskGoesOn D.kind D.moment D.images D.faults disk.old disk.new }
     ensures link { LinkGoesOn L.tells L.sent L.budget L.taken L.faults link.old link.new }
     ensures clock { ClockGoesOn C.tells C.readings clock.old clock.new }
     ensures usage { (folder_in (map string_bytes words.now) ≡ None) ↔ (result ≡ 2) }
     ensures untouched { result ≡ 2 → (disk.new ≡ disk.old) × (link.new ≡ link.old) × (clock.new ≡ clock.old) }
     ensures status { (result ≡ 2 → ⊥) → HasStatus (Rose (D.faults disk.old) (D.faults disk.new)) (Rose (L.faults link.old) (L.faults link.new))
-        (IsTrue (D.kind disk.old).tells → is_folder_empty (D.content disk.old).reading ≡ false) (D.kind disk.old).limit result }
+        (IsTrue (D.kind disk.old).tells → is_folder_empty (D.content disk.old).reading ≡ false) result }
 {
     let Some(_) = folder_word(words) else {
         return 2;
@@ -107,9 +107,9 @@ pub fn serve_main<D: Disk, L: Link, C: Clock, S: Source, E: Sink>(
         → Survives durable_in (D.images disk.new) (D.moment disk.old) (D.moment disk.new) (added (L.sent link.old) (L.sent link.new))
         start (plan_over start frame_limit (L.left link.old) (added (C.readings clock.old) (C.readings clock.new))) }
 
-    // A folder that is not empty stays as it is.
+    // A folder that is not empty is refused: it stays as it is, and nothing is read, sent or timed.
     ensures not_empty { IsTrue (D.kind disk.old).tells → is_folder_empty (D.content disk.old).reading ≡ false
-        → (result ≡ 0 → ⊥) × Stays D.content D.moment D.images disk.old disk.new }
+        → (result ≡ 2 → ⊥) → IsRefusedFolder result × Stays D.content D.moment D.images disk.old disk.new × (link.new ≡ link.old) × (clock.new ≡ clock.old) }
     ensures disk { DiskGoesOn D.kind D.moment D.images D.faults disk.old disk.new }
     ensures link { LinkGoesOn L.tells L.sent L.budget L.taken L.faults link.old link.new }
     ensures clock { ClockGoesOn C.tells C.readings clock.old clock.new }
@@ -117,8 +117,9 @@ pub fn serve_main<D: Disk, L: Link, C: Clock, S: Source, E: Sink>(
     // Status 2 exactly where the words do not name a folder; then nothing was touched.
     ensures usage { (folder_in (map string_bytes words.now) ≡ None) ↔ (result ≡ 2) }
     ensures untouched { result ≡ 2 → (disk.new ≡ disk.old) × (link.new ≡ link.old) × (clock.new ≡ clock.old) }
+    ensures conf { _conf.new ≡ _conf.old }
     ensures status { (result ≡ 2 → ⊥) → HasStatus (Rose (D.faults disk.old) (D.faults disk.new)) (Rose (L.faults link.old) (L.faults link.new))
-        (IsTrue (D.kind disk.old).tells → is_folder_empty (D.content disk.old).reading ≡ false) (D.kind disk.old).limit result }
+        (IsTrue (D.kind disk.old).tells → is_folder_empty (D.content disk.old).reading ≡ false) result }
 
     // Exactly the status's line was written where the count of the sink did not rise, else a front of it.
     ensures errs { SinkGoesOn E.tells E.written E.faults errs.old errs.new }

@@ -61,15 +61,27 @@ fn run(alloc: Global, disk: &mut MemDisk, link: &mut MemLink) -> Result<Result<(
     Ok(StandaloneEngine::run(alloc, disk, link, &mut clock, &config))
 }
 
-// Whether a file is these pieces and then zeros, in whole chunks.
+// Whether a file is empty.
+fn is_empty(disk: &MemDisk, family: Family, part: Part) -> bool {
+    disk.get(Place { family, part }).is_empty()
+}
+
+// Whether a family's slot a is these pieces and then zeros, in whole chunks, and its other files are empty.
 fn holds(alloc: Global, disk: &MemDisk, family: Family, pieces: &[&[u8]]) -> Result<bool, Fail> {
     let file = disk.get(Place {
         family,
         part: Part::A,
     });
     let front = joined(alloc, pieces)?;
-    let fits = file.len() == 65_536 && file.starts_with(&front);
+    let alone = is_empty(disk, family, Part::Head) && is_empty(disk, family, Part::B);
+    let fits = alone && file.len() == 65_536 && file.starts_with(&front);
     Ok(fits && file.iter().skip(front.len()).all(|byte| *byte == 0))
+}
+
+fn has_no_snapshot(disk: &MemDisk) -> bool {
+    is_empty(disk, Family::Snapshot, Part::Head)
+        && is_empty(disk, Family::Snapshot, Part::A)
+        && is_empty(disk, Family::Snapshot, Part::B)
 }
 
 // Whether the files are those of the opening alone.

@@ -35,7 +35,8 @@ pub struct StandaloneEngine;
 
 impl StandaloneEngine {
     /// Serves the frames of a link, to the end of its input, from the files of an empty folder. Each put is on the disk
-    /// before a byte of its reply is sent. `NotEmpty` where a file of the folder is not empty; then nothing is written.
+    /// before a byte of its reply is sent. `NotEmpty` where a file of the folder is not empty; where the disk tells its
+    /// bytes, nothing is written then.
     /// `StorageIoError` and `LinkFault` where the disk's or the link's count of faults rose, `DiskFull` where a file would
     /// pass the disk's limit.
     pub fn run<D: Disk, L: Link, C: Clock>(
@@ -70,9 +71,9 @@ impl StandaloneEngine {
             Survives durable_in (D.images disk.new) (D.moment disk.old) (D.moment disk.new) (added (L.sent link.old) (L.sent link.new))
             start (plan_over start config.now.node.network.max_frame_size (L.left link.old) (added (C.readings clock.old) (C.readings clock.new))) }
 
-        // A folder that is not empty is refused, and stays as it is.
+        // A folder that is not empty is refused: it stays as it is, and nothing is read, sent or timed.
         ensures not_empty { IsTrue (D.kind disk.old).tells → is_folder_empty (D.content disk.old).reading ≡ false
-            → OnOk result ⊥ × IfErr result IsNotEmptyOrFault × Stays D.content D.moment D.images disk.old disk.new }
+            → OnOk result ⊥ × IfErr result IsNotEmptyOrFault × Stays D.content D.moment D.images disk.old disk.new × (link.new ≡ link.old) × (clock.new ≡ clock.old) }
         ensures disk { DiskGoesOn D.kind D.moment D.images D.faults disk.old disk.new }
         ensures link { LinkGoesOn L.tells L.sent L.budget L.taken L.faults link.old link.new }
         ensures clock { ClockGoesOn C.tells C.readings clock.old clock.new }
