@@ -1,6 +1,8 @@
 //! The program: it serves the frames of standard input from the files of a folder, and writes replies to standard output.
 #![tactic(auto)]
 
+#[cfg(test)]
+mod rows;
 mod serving;
 mod status;
 mod words;

@@ -1,0 +1,91 @@
+//! Worked rows: the status and the line that go with each way to end.
+use crate::serving::serve_main;
+use den_disk::{Family, ListClock, MemDisk, MemLink, MemSink, MemSource, Part, Place};
+use std::alloc::Global;
+use std::test::Fail;
+
+// A put of a = b, and a read of a.
+const PUT: &[u8] =
+    b"\0\0\0\0\0\0\0\x20\x01\0\0\0\x01\x01\0\0\0\0\0\0\0\x01a\0\0\0\0\0\0\0\x01b\0\0\0\0\0\0\0\0";
+
+const READ: &[u8] = b"\0\0\0\0\0\0\0\x17\x02\0\0\0\x01\0\0\0\0\0\0\0\0\x01\0\0\0\0\0\0\0\x01a";
+
+// The reply to the put.
+const WRITTEN: &[u8] = b"\0\0\0\0\0\0\0\x06\x01\0\0\0\x01\x01";
+
+const EMPTY: &[u8] = b"";
+
+fn link_of(alloc: Global) -> Result<MemLink, Fail> {
+    let mut input = Vec::new(alloc);
+    input.extend_from_slice(PUT)?;
+    input.extend_from_slice(READ)?;
+    Ok(MemLink::new(alloc, input, Vec::new(alloc)))
+}
+
+// The status of serving with one word, and the line.
+fn serve(
+    alloc: Global,
+    disk: &mut MemDisk,
+    link: &mut MemLink,
+    errs: &mut MemSink,
+) -> Result<u8, Fail> {
+    let mut words = Vec::new(alloc);
+    words.push(String::from_str(alloc, "d")?)?;
+    let mut conf = MemSource::new(Vec::new(alloc));
+    let mut readings = Vec::new(alloc);
+    readings.push(1000)?;
+    let mut clock = ListClock::new(readings);
+    Ok(serve_main(alloc, &words, &mut conf, disk, link, &mut clock, errs))
+}
+
+#[test]
+fn link_faults(rt: HostRuntime) -> Result<(), Fail> {
+    let alloc = rt.alloc();
+    let mut disk = MemDisk::new(alloc);
+    let mut link = link_of(alloc)?;
+    link.fail_read_after(40);
+    let mut errs = MemSink::new(alloc);
+    assert_eq!(rt; serve(alloc, &mut disk, &mut link, &mut errs)?, 6);
+    assert_eq!(rt; link.sent(), WRITTEN);
+    assert_eq!(rt; errs.bytes(), b"den_server: link fault\n".as_slice());
+    Ok(())
+}
+
+#[test]
+fn no_disk_call(rt: HostRuntime) -> Result<(), Fail> {
+    let alloc = rt.alloc();
+    let mut disk = MemDisk::new(alloc);
+    disk.fuse(0);
+    let mut link = link_of(alloc)?;
+    let mut errs = MemSink::new(alloc);
+    assert_eq!(rt; serve(alloc, &mut disk, &mut link, &mut errs)?, 5);
+    assert_eq!(rt; link.sent(), EMPTY);
+    assert_eq!(rt; errs.bytes(), b"den_server: storage fault\n".as_slice());
+    for family in [Family::Log, Family::Meta, Family::State, Family::Snapshot] {
+        for part in [Part::Head, Part::A, Part::B] {
+            assert!(rt; disk.get(Place { family, part }).is_empty());
+        }
+    }
+    Ok(())
+}
+
+#[test]
+fn not_empty(rt: HostRuntime) -> Result<(), Fail> {
+    let alloc = rt.alloc();
+    let mut disk = MemDisk::new(alloc);
+    let place = Place {
+        family: Family::State,
+        part: Part::Head,
+    };
+    disk.set(place, b"x")?;
+    let mut link = link_of(alloc)?;
+    let mut errs = MemSink::new(alloc);
+    assert_eq!(rt; serve(alloc, &mut disk, &mut link, &mut errs)?, 11);
+    assert_eq!(rt; link.sent(), EMPTY);
+    assert_eq!(rt;
+        errs.bytes(),
+        b"den_server: folder is not empty\n".as_slice()
+    );
+    assert_eq!(rt; disk.get(place), b"x".as_slice());
+    Ok(())
+}
