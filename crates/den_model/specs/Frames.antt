@@ -17,10 +17,10 @@ framed body = u64_word (length body) ++ body
 abbrev pub is_built_operation : Option WriteOperation → Bool
 is_built_operation None = false
 is_built_operation (Some (operation.Insert key value ttl_secs)) = is_none ttl_secs
-is_built_operation (Some (operation.Delete key)) = false
+is_built_operation (Some (operation.Delete key)) = true
 is_built_operation (Some (operation.CompareAndSwap key expected new_value)) = false
 
--- the requests that this server answers: a put without a time to live, and a read of one key
+-- the requests that this server answers: a put without a time to live, a delete, and a read of one key
 abbrev pub is_built : Request → Bool
 is_built (request.Write w) = is_built_operation w.command
 is_built (request.Read r) = length r.keys == 1

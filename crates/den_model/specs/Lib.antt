@@ -15,3 +15,4 @@ pub mod MapState
 pub mod Image
 pub mod Crash
 pub mod Laws
+pub mod Sizes
