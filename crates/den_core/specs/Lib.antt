@@ -6,3 +6,4 @@ pub mod Joined
 pub mod Opening
 pub mod Parts
 pub mod Refusals
+pub mod Weights

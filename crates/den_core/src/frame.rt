@@ -86,17 +86,18 @@ fn read_body<L: Link>(link: &mut L, size: u64, body: &mut Vec<u8>) -> Result<boo
     Ok(true)
 }
 
-/// Whether this server carries out the operation: a put without a time to live.
+/// Whether this server carries out the operation: a put without a time to live, or a delete.
 fn is_built_operation(operation: &Option<WriteOperation>) -> bool
     ensures { result ≡ is_built_operation operation.now }
 {
     match operation {
         Some(WriteOperation::Insert { ttl_secs, .. }) => ttl_secs.is_none(),
-        Some(WriteOperation::Delete { .. } | WriteOperation::CompareAndSwap { .. }) | None => false,
+        Some(WriteOperation::Delete { .. }) => true,
+        Some(WriteOperation::CompareAndSwap { .. }) | None => false,
     }
 }
 
-/// Whether this server answers the request: a put without a time to live, or a read of one key.
+/// Whether this server answers the request: a put without a time to live, a delete, or a read of one key.
 fn is_built(request: &Request) -> bool
     ensures { result ≡ is_built request.now }
 {

@@ -1,5 +1,5 @@
 //! What the loop over frames sees of an engine.
-ghost use Rattle.std.specs.Prelude.{◌≡◌, ◌<◌, ◌≤◌, ◌^◌, ◌-◌, ℕ, IsTrue, List, [], Option, Some, OnOk, IfOk, IfErr};
+ghost use Rattle.std.specs.Prelude.{◌≡◌, ◌<◌, ◌≤◌, ◌^◌, ◌+◌, ◌-◌, ℕ, IsTrue, List, [], Option, Some, OnOk, IfOk, IfErr};
 ghost use Rattle.den_disk.specs.Files.{Files, Content, IsImage};
 ghost use Rattle.den_disk.specs.Goes.{Rose, DiskGoesOn};
 ghost use Rattle.den_model.specs.Kv.{Durable, Kv};
@@ -7,7 +7,9 @@ ghost use Rattle.den_model.specs.Plan.{after, output, opening, turn};
 ghost use Rattle.den_model.specs.Crash.{Survives};
 ghost use Rattle.den_model.specs.Frames.{IsBuiltFrame};
 ghost use Rattle.den_store.specs.Causes.{IsRefusal};
+ghost use Rattle.den_codec.specs.Full.{IsHeavy};
 ghost use Rattle.den_core.specs.Answers.{frames_of};
+ghost use Rattle.den_core.specs.Weights.{frame_rise, opening_rise};
 
 use den_codec::{Error, Frame, Reply, Rows, WatchEvent};
 use den_disk::Disk;
@@ -33,6 +35,10 @@ pub trait Stepper<D: Disk>: Drop {
     /// It has not failed.
     ghost ready: { Self → Type 0 };
 
+    /// A number of bytes: what its files and the calls since it was opened handed it, at most. A disk is told to be full
+    /// only where four times the weight is above the limit of a file.
+    ghost weight: { Self → ℕ };
+
     /// Makes the opening's steps.
     fn open_at(&mut self, disk: &mut D, moment: u64) -> Result<(), Error>
         requires ready { ready self.old }
@@ -44,9 +50,11 @@ pub trait Stepper<D: Disk>: Drop {
         ensures survives { IsTrue (D.kind disk.old).tells
             → Survives holds (D.images disk.new) (D.moment disk.old) (D.moment disk.new) [] (kv self.old) (opening (kv self.old) moment) }
         ensures state { OnOk result (kv self.new ≡ after (kv self.old) (opening (kv self.old) moment)) }
+        ensures weight { OnOk result (weight self.new ≤ weight self.old + opening_rise) }
         ensures ready { OnOk result (ready self.new) }
         ensures rests { OnOk result (IsTrue (D.kind disk.old).tells → rests self.new (D.content disk.new)) }
-        ensures refused { IfErr result (λ e. IsRefusal (Rose (D.faults disk.old) (D.faults disk.new)) (D.kind disk.old).limit e) };
+        ensures refused { IfErr result (λ e. IsRefusal (Rose (D.faults disk.old) (D.faults disk.new)) (D.kind disk.old).limit e) }
+        ensures heavy { IfErr result (IsHeavy (D.kind disk.old).limit (weight self.old + opening_rise)) };
 
     /// Makes a frame's steps, and answers what is to be sent.
     fn step(&mut self, disk: &mut D, frame: Frame, moment: u64) -> Result<StepOut, Error>
@@ -58,10 +66,12 @@ pub trait Stepper<D: Disk>: Drop {
         ensures survives { IsTrue (D.kind disk.old).tells
             → Survives holds (D.images disk.new) (D.moment disk.old) (D.moment disk.new) [] (kv self.old) (turn (kv self.old) frame moment) }
         ensures state { OnOk result (kv self.new ≡ after (kv self.old) (turn (kv self.old) frame moment)) }
+        ensures weight { OnOk result (weight self.new ≤ weight self.old + frame_rise frame) }
         ensures answer { IfOk result (λ out. frames_of out.reply out.events ≡ output (kv self.old) (turn (kv self.old) frame moment)) }
         ensures ready { OnOk result (ready self.new) }
         ensures rests { OnOk result (IsTrue (D.kind disk.old).tells → rests self.new (D.content disk.new)) }
-        ensures refused { IfErr result (λ e. IsRefusal (Rose (D.faults disk.old) (D.faults disk.new)) (D.kind disk.old).limit e) };
+        ensures refused { IfErr result (λ e. IsRefusal (Rose (D.faults disk.old) (D.faults disk.new)) (D.kind disk.old).limit e) }
+        ensures heavy { IfErr result (IsHeavy (D.kind disk.old).limit (weight self.old + frame_rise frame)) };
 
     /// Files that lie as it left them stand for its durable part, whatever a crash does to what is pending.
     ghost rests_hold: { (s : Self) (c : Content) (files : Files) → ready s → rests s c → IsImage c files → holds files ≡ Some (kv s).durable };

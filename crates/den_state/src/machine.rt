@@ -1,5 +1,5 @@
 //! What a state machine is.
-ghost use Rattle.std.specs.Prelude.{◌≡◌, true, false, IsTrue, Option, Some, None, OnOk, IfOk, IfErr, option_map};
+ghost use Rattle.std.specs.Prelude.{◌≡◌, ◌≤◌, ◌↔◌, ◌+◌, ℕ, true, false, IsTrue, Option, Some, None, OnOk, IfOk, IfErr, option_map};
 ghost use Rattle.den_disk.specs.declared.place.Family.TheVariants.{State as state_family};
 ghost use Rattle.den_disk.specs.Files.{Files, Content, IsImage};
 ghost use Rattle.den_disk.specs.Goes.{Rose, DiskGoesOn};
@@ -7,7 +7,9 @@ ghost use Rattle.den_disk.specs.Families.{SameOf, SparesOthers, SparesOwn, Spare
 ghost use Rattle.den_model.specs.declared.held.Held.{Held};
 ghost use Rattle.den_model.specs.MapState.{MapState, map_applied_all, results_of, part_of};
 ghost use Rattle.den_model.specs.Apply.{value_at};
-ghost use Rattle.den_state.specs.Chunk.{out_of_order, asks_lease, IsChunkRefusal};
+ghost use Rattle.den_model.specs.Sizes.{entries_size, store_rise};
+ghost use Rattle.den_codec.specs.Full.{IsHeavy};
+ghost use Rattle.den_state.specs.Chunk.{out_of_order, asks_lease, has_expiry, IsChunkRefusal};
 
 use den_codec::{ApplyResult, Blob, Entry, Error, LogId, Rows};
 use den_disk::Disk;
@@ -26,6 +28,10 @@ pub trait StateMachine<D: Disk>: Drop {
     /// It has not failed.
     ghost ready: { Self → Type 0 };
 
+    /// A number of bytes: what its files and the calls since it was opened handed it, at most. A disk is told to be full
+    /// only where four times the weight is above the limit of a file.
+    ghost weight: { Self → ℕ };
+
     /// Applies entries in order, each swap seeing the writes before it, and answers whether each succeeded. A chunk out
     /// of order, or with a time to live where no lease is configured, is refused with nothing changed. A crash inside
     /// leaves the old map or the new one.
@@ -39,9 +45,19 @@ pub trait StateMachine<D: Disk>: Drop {
         ensures applied { OnOk result (map self.new ≡ map_applied_all (map self.old) chunk.now) }
         ensures results { IfOk result (λ results. results ≡ results_of (map self.old) chunk.now) }
         ensures in_order { OnOk result ((out_of_order (map self.old).mark.index chunk.now ≡ None) × (asks_lease chunk.now ≡ false)) }
+        ensures weight { OnOk result (weight self.new ≤ weight self.old + store_rise (entries_size chunk.now)) }
         ensures ready { OnOk result (ready self.new) }
         ensures rests { OnOk result (IsTrue (D.kind disk.old).tells → rests self.new (D.content disk.new)) }
-        ensures refused { IfErr result (λ e. IsChunkRefusal (Rose (D.faults disk.old) (D.faults disk.new)) (D.kind disk.old).limit (map self.old).mark.index chunk.now e) };
+        ensures refused { IfErr result (λ e. IsChunkRefusal (Rose (D.faults disk.old) (D.faults disk.new)) (D.kind disk.old).limit (map self.old).mark.index chunk.now e) }
+        ensures heavy { IfErr result (IsHeavy (D.kind disk.old).limit (weight self.old + store_rise (entries_size chunk.now))) };
+
+    /// Whether a refusal left it of no more use. It is opened anew then.
+    fn is_failed(&self) -> bool
+        ensures { (result ≡ false) ↔ ready self.now };
+
+    /// Whether a key has an expiry.
+    fn holds_expiry(&self) -> bool
+        ensures { result ≡ has_expiry (map self.now) };
 
     /// The value at a key.
     fn get(&self, key: &[u8]) -> Option<&Blob>

@@ -1,5 +1,8 @@
 //! What a log store and a store of the hard state are.
-ghost use Rattle.std.specs.Prelude.{◌≡◌, ◌+◌, ℕ, true, IsTrue, Option, Some, OnOk, IfOk, IfErr};
+ghost use Rattle.std.specs.Prelude.{◌≡◌, ◌≤◌, ◌↔◌, ◌+◌, ℕ, true, false, IsTrue, Option, Some, OnOk, IfOk, IfErr, length};
+ghost use Rattle.den_codec.specs.Full.{IsHeavy};
+ghost use Rattle.den_model.specs.Sizes.{entries_size, store_rise};
+ghost use Rattle.den_model.specs.Spelling.{hard_state_word};
 ghost use Rattle.den_codec.specs.declared.error.Error.TheVariants.{OutOfMemory};
 ghost use Rattle.den_disk.specs.declared.place.Family.TheVariants.{Log as log_family, Meta as meta_family};
 ghost use Rattle.den_disk.specs.Files.{Files, Content, IsImage};
@@ -32,6 +35,10 @@ pub trait LogStore<D: Disk>: Drop {
     /// The number of the file in which it lies.
     ghost place: { Self → ℕ };
 
+    /// A number of bytes: what its files and the calls since it was opened handed it, at most. A disk is told to be full
+    /// only where four times the weight is above the limit of a file.
+    ghost weight: { Self → ℕ };
+
     /// Adds entries, in place of those held from the first one's index on. A crash inside leaves the old log or the new
     /// one.
     fn persist_entries(&mut self, disk: &mut D, entries: &[Entry]) -> Result<(), Error>
@@ -43,9 +50,15 @@ pub trait LogStore<D: Disk>: Drop {
         ensures others { IsTrue (D.kind disk.old).tells → SparesImages log_family (D.images disk.old) (D.images disk.new) (D.moment disk.old) (D.moment disk.new) }
         ensures spares { IsTrue (D.kind disk.old).tells → SparesOthers log_family (D.content disk.old) (D.content disk.new) }
         ensures persisted { OnOk result (log self.new ≡ changed (log self.old) (Append entries.now)) }
+        ensures weight { OnOk result (weight self.new ≤ weight self.old + store_rise (entries_size entries.now)) }
         ensures ready { OnOk result (ready self.new) }
         ensures rests { OnOk result (IsTrue (D.kind disk.old).tells → rests self.new (D.content disk.new)) }
-        ensures refused { IfErr result (λ e. IsRefusal (Rose (D.faults disk.old) (D.faults disk.new)) (D.kind disk.old).limit e) };
+        ensures refused { IfErr result (λ e. IsRefusal (Rose (D.faults disk.old) (D.faults disk.new)) (D.kind disk.old).limit e) }
+        ensures heavy { IfErr result (IsHeavy (D.kind disk.old).limit (weight self.old + store_rise (entries_size entries.now))) };
+
+    /// Whether a refusal of the disk left it of no more use. It is opened anew then.
+    fn is_failed(&self) -> bool
+        ensures { (result ≡ false) ↔ ready self.now };
 
     /// The greatest index that is held, or the boundary's, or 0.
     fn last_index(&self) -> u64
@@ -84,6 +97,9 @@ pub trait MetaStore<D: Disk>: Drop {
     /// What files give of hard states.
     ghost holds: { Files → Option (Option HardState) };
 
+    /// A number of bytes: what its files and the calls since it was opened handed it, at most.
+    ghost weight: { Self → ℕ };
+
     /// The files of the hard state lie on the disk as its last call left them.
     ghost rests: { Self → Content → Type 0 };
 
@@ -99,9 +115,15 @@ pub trait MetaStore<D: Disk>: Drop {
         ensures others { IsTrue (D.kind disk.old).tells → SparesImages meta_family (D.images disk.old) (D.images disk.new) (D.moment disk.old) (D.moment disk.new) }
         ensures spares { IsTrue (D.kind disk.old).tells → SparesOthers meta_family (D.content disk.old) (D.content disk.new) }
         ensures saved { OnOk result (hard_state self.new ≡ Some state.now) }
+        ensures weight { OnOk result (weight self.new ≤ weight self.old + store_rise (length (hard_state_word state.now))) }
         ensures ready { OnOk result (ready self.new) }
         ensures rests { OnOk result (IsTrue (D.kind disk.old).tells → rests self.new (D.content disk.new)) }
-        ensures refused { IfErr result (λ e. IsRefusal (Rose (D.faults disk.old) (D.faults disk.new)) (D.kind disk.old).limit e) };
+        ensures refused { IfErr result (λ e. IsRefusal (Rose (D.faults disk.old) (D.faults disk.new)) (D.kind disk.old).limit e) }
+        ensures heavy { IfErr result (IsHeavy (D.kind disk.old).limit (weight self.old + store_rise (length (hard_state_word state.now)))) };
+
+    /// Whether a refusal of the disk left it of no more use. It is opened anew then.
+    fn is_failed(&self) -> bool
+        ensures { (result ≡ false) ↔ ready self.now };
 
     /// The last hard state that was saved.
     fn load_hard_state(&self) -> Option<HardState>
