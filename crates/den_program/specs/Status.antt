@@ -21,7 +21,7 @@ status_of (Some (Ok done)) = 0
 status_of (Some (Err e)) = status_of_error e
 
 -- the name of the file of this number
-abbrev pub file_name : ℕ → List ℕ
+unfoldable pub file_name : ℕ → List ℕ
 file_name number =
     if number == 0 then codes "log.head"
     else if number == 1 then codes "log.a"
@@ -36,8 +36,15 @@ file_name number =
     else if number == 10 then codes "snapshot.a"
     else codes "snapshot.b"
 
+unfoldable pub corruption_front : (place : ℕ) → List ℕ
+corruption_front place = codes "den_server: data corruption in " ++ file_name place
+
+unfoldable pub corruption_end : (offset : ℕ) → List ℕ
+corruption_end offset = codes " at " ++ decimal offset ++ codes "\n"
+
+-- the line of a file that is corrupt at an offset
 abbrev pub corruption_line : (place offset : ℕ) → List ℕ
-corruption_line place offset = codes "den_server: data corruption in " ++ file_name place ++ codes " at " ++ decimal offset ++ codes "\n"
+corruption_line place offset = corruption_front place ++ corruption_end offset
 
 abbrev pub line_of_error : Error → List ℕ
 line_of_error OutOfMemory = codes "den_server: out of memory\n"

@@ -1,7 +1,7 @@
 //! The exit status, and the line that goes with it.
 ghost use Rattle.std.specs.Prelude.{◌≡◌, ◌++◌, ◌<◌, ℕ, List, IsTrue, IsErr, OnOk, length};
 ghost use Rattle.den_disk.specs.Goes.{Rose, HasCause, IsPrefix, SinkGoesOn};
-ghost use Rattle.den_program.specs.Status.{status_of, status_of_error, file_name, corruption_line, line_of, line_of_error, IsFixed, IsWrittenFront};
+ghost use Rattle.den_program.specs.Status.{status_of, status_of_error, file_name, corruption_front, corruption_end, corruption_line, line_of, line_of_error, IsFixed, IsWrittenFront};
 
 use den_codec::Error;
 use den_disk::{Sink, SinkFault};
@@ -40,6 +40,7 @@ pub fn status_of(answer: Answer) -> u8
 }
 
 /// The name of the file of this number.
+#[tactic(auto, unfolding(crate::specs::Status::file_name))]
 fn file_name(number: u8) -> &'static str
     ensures name { result.now ≡ file_name number }
     ensures some { 0 < length result.now }
@@ -90,19 +91,41 @@ fn write_on<E: Sink>(errs: &mut E, piece: &[u8]) -> Result<(), SinkFault>
     errs.write(piece)
 }
 
-/// Writes the line of a corrupt file, piece by piece, since it takes no memory.
+/// Writes that a file is corrupt, and which.
+#[tactic(auto, unfolding(crate::specs::Status::corruption_front))]
+fn write_front<E: Sink>(errs: &mut E, place: u8) -> Result<(), SinkFault>
+    ensures errs { SinkGoesOn E.tells E.written E.faults errs.old errs.new }
+    ensures cause { HasCause (E.faults errs.old) (E.faults errs.new) (IsErr result) }
+    ensures all { OnOk result (IsTrue (E.tells errs.old) → E.written errs.new ≡ E.written errs.old ++ corruption_front place) }
+    ensures front { IsTrue (E.tells errs.old) → IsWrittenFront (corruption_front place) (E.written errs.old) (E.written errs.new) }
+{
+    write_on(errs, b"den_server: data corruption in ")?;
+    write_on(errs, file_name(place).as_bytes())
+}
+
+/// Writes where a file is corrupt.
+#[tactic(auto, unfolding(crate::specs::Status::corruption_end))]
+fn write_end<E: Sink>(errs: &mut E, offset: u64) -> Result<(), SinkFault>
+    ensures errs { SinkGoesOn E.tells E.written E.faults errs.old errs.new }
+    ensures cause { HasCause (E.faults errs.old) (E.faults errs.new) (IsErr result) }
+    ensures all { OnOk result (IsTrue (E.tells errs.old) → E.written errs.new ≡ E.written errs.old ++ corruption_end offset) }
+    ensures front { IsTrue (E.tells errs.old) → IsWrittenFront (corruption_end offset) (E.written errs.old) (E.written errs.new) }
+{
+    let mut buffer = Buffer::new();
+    write_on(errs, b" at ")?;
+    write_on(errs, buffer.format(offset).as_bytes())?;
+    write_on(errs, b"\n")
+}
+
+/// Writes the line of a corrupt file, in pieces, since it takes no memory.
 fn write_corruption<E: Sink>(errs: &mut E, place: u8, offset: u64) -> Result<(), SinkFault>
     ensures errs { SinkGoesOn E.tells E.written E.faults errs.old errs.new }
     ensures cause { HasCause (E.faults errs.old) (E.faults errs.new) (IsErr result) }
     ensures all { OnOk result (IsTrue (E.tells errs.old) → E.written errs.new ≡ E.written errs.old ++ corruption_line place offset) }
     ensures front { IsTrue (E.tells errs.old) → IsWrittenFront (corruption_line place offset) (E.written errs.old) (E.written errs.new) }
 {
-    let mut buffer = Buffer::new();
-    write_on(errs, b"den_server: data corruption in ")?;
-    write_on(errs, file_name(place).as_bytes())?;
-    write_on(errs, b" at ")?;
-    write_on(errs, buffer.format(offset).as_bytes())?;
-    write_on(errs, b"\n")
+    write_front(errs, place)?;
+    write_end(errs, offset)
 }
 
 fn write_line<E: Sink>(errs: &mut E, answer: Answer) -> Result<(), SinkFault>
