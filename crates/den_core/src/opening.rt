@@ -10,7 +10,7 @@ ghost use Rattle.den_model.specs.Image.{durable, joined, run_from, term_of};
 ghost use Rattle.den_model.specs.Kv.{Durable};
 ghost use Rattle.den_model.specs.Log.{above, floor, last_of};
 ghost use Rattle.den_model.specs.MapState.{map_applied_all};
-ghost use Rattle.den_state.specs.Chunk.{asks_lease, out_of_order};
+ghost use Rattle.den_state.specs.Chunk.{asks_lease, has_expiry, out_of_order};
 ghost use Rattle.den_store.specs.Causes.{IsRefusal};
 ghost use Rattle.den_core.specs.Opening.{agrees, opening_refusal, refusal_by, IsLeft, IsOpeningFailure};
 ghost use Rattle.den_core.specs.Parts.{kv_of, IsPlain, AllRest};
@@ -48,6 +48,13 @@ fn asks_lease(entries: &[Entry]) -> bool
         }
     }
     false
+}
+
+/// Whether a key of the map has an expiry, or one of these entries sets one.
+fn needs_lease<D: Disk, M: StateMachine<D>>(state: &M, entries: &[Entry]) -> bool
+    ensures { result ≡ (has_expiry (M.map state.now) || asks_lease entries.now) }
+{
+    state.holds_expiry() || asks_lease(entries)
 }
 
 /// The index of the last entry, or this one.
@@ -97,14 +104,15 @@ fn is_exhausted(term: u64, last_index: u64) -> bool
     term == u64::MAX || last_index == u64::MAX
 }
 
-/// What opening refuses where these entries of the log are above the map's mark.
+/// What opening refuses where these entries of the log are above the map's mark, and a lease is needed or is not.
 fn refusal<D: Disk, G: LogStore<D>, T: MetaStore<D>>(
     log: &G,
     meta: &T,
     mark: u64,
     entries: &[Entry],
+    lease: bool,
 ) -> Option<Error>
-    ensures refusal { result ≡ refusal_by (G.place log.now) (agrees (G.log log.now) mark entries.now) (asks_lease entries.now)
+    ensures refusal { result ≡ refusal_by (G.place log.now) (agrees (G.log log.now) mark entries.now) lease
         ((term_of (T.hard_state meta.now) == 2 ^ 64 - 1) || (last_of mark entries.now == 2 ^ 64 - 1)) }
     ensures room { IfNone result ((term_of (T.hard_state meta.now) < 2 ^ 64 - 1) × (last_of mark entries.now < 2 ^ 64 - 1)) }
 {
@@ -114,7 +122,7 @@ fn refusal<D: Disk, G: LogStore<D>, T: MetaStore<D>>(
             offset: 0,
         });
     }
-    if asks_lease(entries) {
+    if lease {
         return Some(Error::FeatureNotEnabled);
     }
     if is_exhausted(current_term::<D, T>(meta), last_of(mark, entries)) {
@@ -183,8 +191,8 @@ fn catch_up<D: Disk, G: LogStore<D>, T: MetaStore<D>, M: StateMachine<D>>(
 }
 
 /// Brings stores together as they were opened: the log's entries above the map's mark are applied, which moves nothing
-/// that the files stand for. Where log and map disagree, where an entry to apply has a time to live, and where no term
-/// or index is left, it refuses, with nothing written.
+/// that the files stand for. Where log and map disagree, where a key has an expiry or an entry to apply a time to live,
+/// and where no term or index is left, it refuses, with nothing written.
 pub fn recover<D: Disk, G: LogStore<D>, T: MetaStore<D>, M: StateMachine<D>>(
     alloc: Global,
     disk: &mut D,
@@ -216,7 +224,8 @@ pub fn recover<D: Disk, G: LogStore<D>, T: MetaStore<D>, M: StateMachine<D>>(
     let mark = state.last_applied().index;
     let found = entries_above::<D, G>(&log, mark)?;
     let entries = found.as_slice();
-    match refusal::<D, G, T>(&log, &meta, mark, entries) {
+    let lease = needs_lease::<D, M>(&state, entries);
+    match refusal::<D, G, T>(&log, &meta, mark, entries, lease) {
         Some(refused) => Err(refused),
         None => catch_up(alloc, disk, log, meta, state, running, entries),
     }
