@@ -53,6 +53,7 @@ impl<G, T, M> Engine<G, T, M> {
         requires plain { IsPlain running }
         ensures kv { ⟦<Engine<G, T, M> as Stepper<D>>⟧.kv result ≡ kv_of (T.hard_state meta) (M.map state) running }
         ensures ready { ⟦<Engine<G, T, M> as Stepper<D>>⟧.ready result }
+        ensures weight { ⟦<Engine<G, T, M> as Stepper<D>>⟧.weight result ≡ G.weight log + T.weight meta + M.weight state }
         ensures rests { (content : Content) → AllRest (G.rests log content) (T.rests meta content) (M.rests state content)
             → ⟦<Engine<G, T, M> as Stepper<D>>⟧.rests result content }
     {

@@ -1,6 +1,7 @@
 //! The engine over stores as they were opened.
-ghost use Rattle.std.specs.Prelude.{◌≡◌, ◌==◌, ◌||◌, ◌^◌, ◌-◌, ◌+◌, ℕ, IsTrue, List, [], Option, Some, None, OnOk, IfOk, IfErr, IsSome, IfNone, ◌<◌, true, false};
+ghost use Rattle.std.specs.Prelude.{◌≡◌, ◌==◌, ◌||◌, ◌^◌, ◌-◌, ◌+◌, ℕ, IsTrue, List, [], Option, Some, None, OnOk, IfOk, IfErr, IsSome, IfNone, ◌<◌, ◌≤◌, true, false};
 ghost use Rattle.den_codec.specs.declared.error.Error.TheVariants.{OutOfMemory};
+ghost use Rattle.den_codec.specs.Full.{IsHeavy};
 ghost use Rattle.den_disk.specs.declared.place.Family.TheVariants.{State as state_family};
 ghost use Rattle.den_disk.specs.Families.{OldOrNew, SparesImages, SparesOthers};
 ghost use Rattle.den_disk.specs.Files.{Files, Content};
@@ -10,6 +11,7 @@ ghost use Rattle.den_model.specs.Image.{durable, joined, run_from, term_of};
 ghost use Rattle.den_model.specs.Kv.{Durable};
 ghost use Rattle.den_model.specs.Log.{above, floor, last_of};
 ghost use Rattle.den_model.specs.MapState.{map_applied_all};
+ghost use Rattle.den_model.specs.Sizes.{entries_size, store_rise};
 ghost use Rattle.den_state.specs.Chunk.{asks_lease, has_expiry, out_of_order};
 ghost use Rattle.den_store.specs.Causes.{IsRefusal};
 ghost use Rattle.den_core.specs.Opening.{agrees, opening_refusal, refusal_by, IsLeft, IsOpeningFailure};
@@ -148,7 +150,9 @@ fn apply_all<D: Disk, M: StateMachine<D>>(
     ensures applied { OnOk result (M.map state.new ≡ map_applied_all (M.map state.old) entries.now) }
     ensures ready { OnOk result (M.ready state.new) }
     ensures rests { OnOk result (IsTrue (D.kind disk.old).tells → M.rests state.new (D.content disk.new)) }
+    ensures weight { OnOk result (M.weight state.new ≤ M.weight state.old + store_rise (entries_size entries.now)) }
     ensures refused { IfErr result (λ e. IsRefusal (Rose (D.faults disk.old) (D.faults disk.new)) (D.kind disk.old).limit e) }
+    ensures heavy { IfErr result (IsHeavy (D.kind disk.old).limit (M.weight state.old + store_rise (entries_size entries.now))) }
 {
     if entries.is_empty() {
         return Ok(());
@@ -183,7 +187,9 @@ fn catch_up<D: Disk, G: LogStore<D>, T: MetaStore<D>, M: StateMachine<D>>(
     ensures running { IfOk result (λ engine. (⟦<Engine<G, T, M> as Stepper<D>>⟧.kv engine).running ≡ running) }
     ensures ready { IfOk result (λ engine. ⟦<Engine<G, T, M> as Stepper<D>>⟧.ready engine) }
     ensures rests { IfOk result (λ engine. IsTrue (D.kind disk.old).tells → ⟦<Engine<G, T, M> as Stepper<D>>⟧.rests engine (D.content disk.new)) }
+    ensures weight { IfOk result (λ engine. ⟦<Engine<G, T, M> as Stepper<D>>⟧.weight engine ≤ G.weight log + T.weight meta + M.weight state + store_rise (entries_size entries.now)) }
     ensures refused { IfErr result (λ e. IsRefusal (Rose (D.faults disk.old) (D.faults disk.new)) (D.kind disk.old).limit e) }
+    ensures heavy { IfErr result (IsHeavy (D.kind disk.old).limit (G.weight log + T.weight meta + M.weight state + store_rise (entries_size entries.now))) }
 {
     let mut state = state;
     apply_all(&mut state, disk, entries)?;
@@ -216,9 +222,13 @@ pub fn recover<D: Disk, G: LogStore<D>, T: MetaStore<D>, M: StateMachine<D>>(
     ensures rests { IfOk result (λ engine. IsTrue (D.kind disk.old).tells → ⟦<Engine<G, T, M> as Stepper<D>>⟧.rests engine (D.content disk.new)) }
     ensures term { IfOk result (λ engine. (⟦<Engine<G, T, M> as Stepper<D>>⟧.kv engine).durable.term < 2 ^ 64 - 1) }
     ensures index { IfOk result (λ engine. (⟦<Engine<G, T, M> as Stepper<D>>⟧.kv engine).durable.last_index < 2 ^ 64 - 1) }
+    ensures weight { IfOk result (λ engine. ⟦<Engine<G, T, M> as Stepper<D>>⟧.weight engine
+        ≤ G.weight log + T.weight meta + M.weight state + store_rise (entries_size (above (M.map state).mark.index (G.log log).entries))) }
     ensures unrefused { OnOk result (opening_refusal (G.place log) (G.log log) (T.hard_state meta) (M.map state) ≡ None) }
     ensures refused { IfErr result (λ e. IsOpeningFailure (Rose (D.faults disk.old) (D.faults disk.new)) (D.kind disk.old).limit
         (opening_refusal (G.place log) (G.log log) (T.hard_state meta) (M.map state)) e) }
+    ensures heavy { IfErr result (IsHeavy (D.kind disk.old).limit
+        (G.weight log + T.weight meta + M.weight state + store_rise (entries_size (above (M.map state).mark.index (G.log log).entries)))) }
     ensures untouched { IsSome (opening_refusal (G.place log) (G.log log) (T.hard_state meta) (M.map state)) → disk.new ≡ disk.old }
 {
     let mark = state.last_applied().index;
