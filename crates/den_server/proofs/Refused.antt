@@ -1,5 +1,5 @@
 -- What a folder's files are refused for, by what was read of them.
-use Rattle.std.proofs.Common.{◌≡◌, ◌⊎◌, inl, inr, ⊎_elim, ◌<◌, ◌≤◌, ◌+◌, ◌*◌, ℕ, Bool, true, false, Option, Some, None, Result, Ok, Err, OnOk, IfOk, IfErr, IsOk, if◌then◌else◌, refl, sym, ◌∙◌, ap, subst, arith}
+use Rattle.std.proofs.Common.{cond, nat_lt, List, [], ◌∷◌, length, ◌≡◌, ◌⊎◌, inl, inr, ⊎_elim, ◌<◌, ◌≤◌, ◌+◌, ◌*◌, ◌||◌, IsTrue, IsSome, ℕ, Bool, true, false, Option, Some, None, Result, Ok, Err, OnOk, IfOk, IfErr, IsOk, if◌then◌else◌, refl, sym, ◌∙◌, ap, subst, arith}
 use Rattle.den_disk.specs.declared.place.Family.TheVariants as family
 use Rattle.den_disk.specs.Place.{place_number}
 use Rattle.den_disk.specs.Files.{Files}
@@ -7,6 +7,9 @@ use Rattle.den_codec.specs.declared.error.Error.{Error}
 use Rattle.den_codec.specs.declared.error.Error.TheVariants as error
 use Rattle.den_codec.specs.Full.{IsHeavy}
 use Rattle.den_model.specs.declared.log_id.HardState.{HardState}
+use Rattle.den_model.specs.Entries.{LogEntry}
+use Rattle.den_model.specs.Sizes.{entries_size}
+use Rattle.den_model.specs.Spelling.{entry_word}
 use Rattle.den_model.specs.Kv.{Durable}
 use Rattle.den_model.specs.Log.{Log, above}
 use Rattle.den_model.specs.MapState.{MapState}
@@ -21,7 +24,7 @@ use Rattle.den_server.specs.Opening.{lease_asked, refusal_of, refusal_in, IsRead
 
 -- ---- the definition, by what each family gives
 
-joint : Files → Result Log ℕ → Result (Option HardState) ℕ → Result MapState ℕ → Result Durable Corruption
+abbrev joint : Files → Result Log ℕ → Result (Option HardState) ℕ → Result MapState ℕ → Result Durable Corruption
 joint files a b c = do
   l ← of_family family.Log files a
   h ← of_family family.Meta files b
@@ -32,7 +35,7 @@ recovered_is : (files : Files) → recovered files ≡ joint files (log_in files
 unfolding recovered
 recovered_is files = refl
 
-by_parts : Files → Result Log ℕ → Result (Option HardState) ℕ → Result MapState ℕ → Option Error
+abbrev by_parts : Files → Result Log ℕ → Result (Option HardState) ℕ → Result MapState ℕ → Option Error
 by_parts files a b c = refusal_of (lease_asked a c) (joint files a b c)
 
 refusal_is : (files : Files) → refusal_in files ≡ by_parts files (log_in files) (hard_state_held files) (map_in files)
@@ -183,3 +186,11 @@ if_ok_two (Err e) P Q R f p q = record {}
 pub if_ok_on : {T E : Type 0} (r : Result T E) (P : Type 0) (Q : T → Type 0) → ((x : T) → P → Q x) → OnOk r P → IfOk r Q
 if_ok_on (Ok x) P Q f p = f x p
 if_ok_on (Err e) P Q f p = record {}
+
+-- the entries above an index are no more than all
+pub above_size : (index : ℕ) (entries : List LogEntry) → entries_size (above index entries) ≤ entries_size entries
+above_size index [] = omega arith
+above_size index (e ∷ es) = kept (nat_lt index e.index) (above_size index es) where
+  kept : (b : Bool) → entries_size (above index es) ≤ entries_size es → entries_size (cond b (e ∷ above index es) (above index es)) ≤ length (entry_word e) + entries_size es
+  kept true le = omega (arith, le)
+  kept false le = omega (arith, le)

@@ -1,5 +1,5 @@
 -- From which moment on a crash leaves what was read at entry.
-use Rattle.std.proofs.Common.{◌≡◌, ◌⊎◌, ⊎_elim, ◌↔◌, ℕ, ◌≤◌, ◌<◌, ◌+◌, List, [], ◌∷◌, length, Result, Ok, Err, Some, Option, IsOk, refl, sym, ◌∙◌, ap, subst, arith}
+use Rattle.std.proofs.Common.{◌≡◌, ◌⊎◌, inr, ⊎_elim, ◌↔◌, ℕ, ◌≤◌, ◌<◌, ◌+◌, List, [], ◌∷◌, length, Result, Ok, Err, Some, Option, IsOk, refl, sym, ◌∙◌, ap, subst, arith}
 use Rattle.std.proofs.lemmas.List.{ext_get_or}
 use Rattle.std.proofs.lemmas.Bool.{cases_lt}
 use Rattle.den_disk.specs.declared.place.Place.{Place}
@@ -36,7 +36,7 @@ none_then old mid new from between to low high past one two = record {
 }
 
 -- an opening that failed has synced, or left all as it was
-pub settled_or_same : {A : Type 0} (e : Error) (old new : Content) → IsSettled {A} (Err e) old new → (new ≡ old) ⊎ (new.pending ≡ [])
+pub settled_or_same : {A : Type 0} (e : Error) (old new : Content) → IsSettled {A = A} (Err e) old new → (new ≡ old) ⊎ (new.pending ≡ [])
 settled_or_same error.OutOfMemory old new h = inr h
 settled_or_same error.StorageIoError old new h = h
 settled_or_same (error.DataCorruption place offset) old new h = inr h

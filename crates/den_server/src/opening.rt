@@ -107,7 +107,13 @@ pub fn open_folder<D: Disk>(
         → IsUnwritten (D.content disk.old) (D.content disk.new) (NoNewImages (D.images disk.old) (D.images disk.new) (D.moment disk.old) (D.moment disk.new)) }
     ensures heavy { IsTrue (D.kind disk.old).tells → IfErr result (IsHeavy (D.kind disk.old).limit (opened_weight (files_size (D.content disk.old).reading))) }
 {
-    let running = running_of(alloc, config)?;
-    let stores = open_stores(alloc, disk)?;
+    let running = match running_of(alloc, config) {
+        Ok(running) => running,
+        Err(error) => return Err(error),
+    };
+    let stores = match open_stores(alloc, disk) {
+        Ok(stores) => stores,
+        Err(error) => return Err(error),
+    };
     recover(alloc, disk, stores.log, stores.meta, stores.state, running)
 }

@@ -18,15 +18,15 @@ use Rattle.den_server.proofs.opening.open_folder.Goals as goal
 
 -- ---- what a crash leaves
 
-pub returns-in_err-running-clause-opening : goal.returns-in_err-running-clause-opening
-returns-in_err-running-clause-opening g c = λ kept told stands.
+pub returns-in-Err-clause-opening : goal.returns-in-Err-clause-opening
+returns-in-Err-clause-opening g c = λ kept told stands.
     let D = g.D.Disk in
     let disk = c.args.disk.now in
     settled_survives durable_in (D.images disk) (D.images disk) (D.moment disk) (D.moment disk) _ _ (D.content disk).reading (entered c.args.config.now kept) stands (no_call (D.images disk) (D.moment disk))
     (never_settles (D.images disk) (D.moment disk) (D.moment disk) _ _ (D.content disk).reading (omega arith) (λ ok. cc ok) refl)
 
-pub returns-in_err-stores-clause-opening : goal.returns-in_err-stores-clause-opening
-returns-in_err-stores-clause-opening g c = λ kept told stands.
+pub returns-in-Err-open_stores-clause-opening : goal.returns-in-Err-open_stores-clause-opening
+returns-in-Err-open_stores-clause-opening g c = λ kept told stands.
     let D = g.D.Disk in
     let disk = c.args.disk.now in
     let mid = c.open_stores.new.disk in
@@ -41,12 +41,12 @@ returns-clause-opening g c = λ kept told stands.
     let told1 : IsTrue (D.kind mid).tells = subst (λ (k : Kind). IsTrue k.tells) (sym c.open_stores.ensures.disk.same) told in
     let goes = c.recover.ensures.disk.told told1 in
     let start = entered c.args.config.now kept in
-    let joint = read_durable (D.content disk).reading _ _ _ (c.in_ok-stores.ensures.read told) in
+    let joint = read_durable (D.content disk).reading _ _ _ (c.in-Ok-open_stores.ensures.read told) in
     opening_then durable_in (D.images disk) (D.images mid) (D.images c.recover.new.disk) (D.moment disk) (D.moment mid) (D.moment c.recover.new.disk) _ _ _ _ [] start
-    (record { durable = kept; running = c.in_ok-running.running }) (λ (k : Kv). []) refl goes.later goes.past
+    (record { durable = kept; running = c.in-Ok.running }) (λ (k : Kv). []) refl goes.later goes.past
     (settled_survives durable_in (D.images disk) (D.images mid) (D.moment disk) (D.moment mid) _ _ (D.content disk).reading start stands (c.open_stores.ensures.images told)
     (c.open_stores.ensures.settles told))
-    (ap (λ (r : Running). record { durable = kept; running = r }) c.in_ok-running.ensures.running)
+    (ap (λ (r : Running). record { durable = kept; running = r }) c.in-Ok.ensures.running)
     (c.recover.ensures.survives kept told1 (sym joint ∙ stands))
 
 -- ---- what the engine holds
@@ -54,34 +54,34 @@ returns-clause-opening g c = λ kept told stands.
 pub returns-clause-kv : goal.returns-clause-kv
 returns-clause-kv g c = if_ok_two c.recover.result _ _ _
     (λ engine opened running kept told stands. kv_is _ kept _
-    (some_same _ _ kept opened (sym (read_durable (g.D.Disk.content c.args.disk.now).reading _ _ _ (c.in_ok-stores.ensures.read told)) ∙ stands))
-    (running ∙ c.in_ok-running.ensures.running))
+    (some_same _ _ kept opened (sym (read_durable (g.D.Disk.content c.args.disk.now).reading _ _ _ (c.in-Ok-open_stores.ensures.read told)) ∙ stands))
+    (running ∙ c.in-Ok.ensures.running))
     c.recover.ensures.opened c.recover.ensures.running
 
 pub returns-clause-weight : goal.returns-clause-weight
 returns-clause-weight g c = if_ok_weaker c.recover.result _ _
-    (λ engine weight told. omega (arith, weight, c.in_ok-stores.ensures.weight told, c.in_ok-stores.ensures.entries told))
+    (λ engine weight told. omega (arith, weight, c.in-Ok-open_stores.ensures.weight told, c.in-Ok-open_stores.ensures.entries told))
     c.recover.ensures.weight
 
 -- ---- why files are refused
 
 pub returns-clause-accepted : goal.returns-clause-accepted
 returns-clause-accepted g c = if_ok_on c.recover.result _ _
-    (λ engine none told. read_refusal (g.D.Disk.content c.args.disk.now).reading _ _ _ _ (c.in_ok-stores.ensures.read told) (c.in_ok-stores.ensures.place told) ∙ none)
+    (λ engine none told. read_refusal (g.D.Disk.content c.args.disk.now).reading _ _ _ _ (c.in-Ok-open_stores.ensures.read told) (c.in-Ok-open_stores.ensures.place told) ∙ none)
     c.recover.ensures.unrefused
 
-pub returns-in_err-stores-clause-refused : goal.returns-in_err-stores-clause-refused
-returns-in_err-stores-clause-refused g c = folder_refused _ _ _ _ _ c.in_err-stores.ensures.refused
+pub returns-in-Err-open_stores-clause-refused : goal.returns-in-Err-open_stores-clause-refused
+returns-in-Err-open_stores-clause-refused g c = folder_refused _ _ _ _ _ c.in-Err-open_stores.ensures.refused
 
 pub returns-clause-refused : goal.returns-clause-refused
 returns-clause-refused g c = if_err_weaker c.recover.result _ _
     (λ e failure.
     let D = g.D.Disk in
-    let stores = c.in_ok-stores.stores in
+    let stores = c.in-Ok-open_stores.stores in
     let rose = Rose (D.faults c.open_stores.new.disk) (D.faults c.recover.new.disk) in
     let refusal = opening_refusal (file_place stores.log) (file_log stores.log) (file_state stores.meta) stores.state.map in
     failure_refused rose _ _ _ (file_place stores.log) (refusal_in (D.content c.args.disk.now).reading) (file_log stores.log) (file_state stores.meta) stores.state.map e
     (λ r. rose_then _ _ _ c.open_stores.ensures.disk.counts r)
-    (λ told. read_refusal (D.content c.args.disk.now).reading _ _ _ _ (c.in_ok-stores.ensures.read told) (c.in_ok-stores.ensures.place told))
+    (λ told. read_refusal (D.content c.args.disk.now).reading _ _ _ _ (c.in-Ok-open_stores.ensures.read told) (c.in-Ok-open_stores.ensures.place told))
     (subst (λ (k : Kind). IsOpeningFailure rose k.limit refusal e) c.open_stores.ensures.disk.same failure))
     c.recover.ensures.refused
