@@ -45,6 +45,10 @@ module _ {L : Type 0} (tells : L → Bool) (left : L → List ℕ) (sent : L →
         could = λ some. omega (arith, one.counted, on.limit);
       }
 
+-- what is left no more was taken
+pub counted_more : (before now : ℕ) (left rest : List ℕ) (n : ℕ) → n ≤ length left → rest ≡ drop n left → now ≡ before + n → now + length rest ≡ before + length left
+counted_more before now left rest n fits is taken = omega (arith, ap length is, length-drop n left)
+
 -- what a read gave
 pub got_sized : (piece : Piece) (n room : ℕ) → piece ≡ Got n → IsSized piece room → (0 < n) × (n ≤ room)
 got_sized piece n room is = subst (λ p. IsSized p room) is

@@ -1,5 +1,6 @@
 -- How long the words are that an engine hands its stores, and when a disk may be told to be full of them.
-use Rattle.std.proofs.Common.{◌≡◌, ℕ, ◌<◌, ◌≤◌, ◌+◌, ◌*◌, List, [], ◌∷◌, ◌++◌, length, Bool, true, false, if◌then◌else◌, Option, Some, None, Result, Ok, Err, IfErr, refl, sym, ◌∙◌, ap, subst, arith, length-append}
+use Rattle.std.proofs.Common.{◌≡◌, ℕ, ◌<◌, ◌≤◌, ◌+◌, ◌-◌, ◌*◌, List, [], ◌∷◌, ◌++◌, length, Option, Some, None, Result, Ok, Err, IfErr, refl, sym, ◌∙◌, ap, subst, arith, length-append}
+use Rattle.std.specs.Prelude.{IfSome}
 use Rattle.std.specs.Result.{IsErrAnd}
 use Rattle.den_codec.specs.Full.{IsHeavy}
 use Rattle.den_codec.specs.declared.error.Error.{Error}
@@ -19,11 +20,11 @@ use Rattle.den_model.specs.Entries.{LogEntry}
 use Rattle.den_model.specs.Sizes.{entries_size, frame_size}
 use Rattle.den_model.specs.Spelling.{u32_word, u64_word, blob_word, option_word, vote_word, hard_state_word, command_word, entry_word, ttl_word, operation_word, request_word}
 use Rattle.den_model.specs.Step.{command_of}
-use Rattle.den_model.specs.Frames.{asked, is_built}
 use Rattle.den_model.specs.Reading.{request_in}
 use Rattle.den_model.specs.Words.{IsBytes, IsRequestWord}
 use Rattle.den_model.proofs.RequestWords.{request_found}
-use Rattle.den_core.specs.Weights.{commit_rise, frame_rise}
+use Rattle.den_core.specs.Input.{HasCome}
+use Rattle.den_core.specs.Weights.{commit_rise, frame_rise, served_weight}
 
 -- ---- what is told
 
@@ -95,14 +96,26 @@ word_length body (request.Scan client_id prefix) h = ap length (sym h.0)
 word_length body (request.Watch client_id prefix prev_kv key) h = ap length (sym h.0)
 word_length body (request.Members client_id) h = ap length (sym h.0)
 
-built_length : (built : Bool) (r : Request) (most : ℕ) → length (request_word r) ≤ most → frame_size (if built then Good r else Bad) ≤ most
-built_length true r most le = le
-built_length false r most le = omega arith
-
-asked_within : (o : Option Request) (most : ℕ) → ((r : Request) → o ≡ Some r → length (request_word r) ≤ most) → frame_size (asked o) ≤ most
-asked_within None most each = omega arith
-asked_within (Some r) most each = built_length (is_built r) r most (each r refl)
-
-pub body_length : (body : List ℕ) → IsBytes body → frame_size (asked (request_in body)) ≤ length body
+pub read_length : (body : List ℕ) (r : Request) → IsBytes body → request_in body ≡ Some r → length (request_word r) ≤ length body
 unfolding request_in
-body_length body bytes = asked_within (request_in body) (length body) (λ r is. omega (arith, word_length body r (request_found body r bytes is).0))
+read_length body r bytes is = omega (arith, word_length body r (request_found body r bytes is).0)
+
+-- ---- frames that were served
+
+-- a call that takes nothing of what is left
+pub counted_on : (before now then : ℕ) (whole left rest : List ℕ) → then ≡ now → rest ≡ left → now + length left ≡ before + length whole → then + length rest ≡ before + length whole
+counted_on before now then whole left rest same kept counted = omega (arith, ap length kept)
+
+-- so many bytes were taken for a frame
+come_rise : (taken : ℕ) (frame : Frame) → HasCome taken frame → frame_rise frame ≤ 256 * taken
+come_rise taken Bad come = omega arith
+come_rise taken (Good request) come = omega arith
+
+module _ (start now taken_first taken_now taken_behind taken_then : ℕ) (found : Option Frame) (frame : Frame) (is : found ≡ Some frame)
+    (so_far : now ≤ served_weight start (taken_now - taken_first)) (more : taken_first ≤ taken_now) (come : IfSome found (HasCome (taken_behind - taken_now))) (same : taken_then ≡ taken_behind) where
+  here : frame_rise frame ≤ 256 * (taken_behind - taken_now)
+  here = come_rise (taken_behind - taken_now) frame (subst (λ f. IfSome f (HasCome (taken_behind - taken_now))) is come)
+
+  -- it was served, or its step was begun
+  pub served_on : taken_now ≤ taken_behind → now + frame_rise frame ≤ served_weight start (taken_then - taken_first)
+  served_on later = omega (arith, here)

@@ -17,7 +17,11 @@ frame_rise (Good request) = step_rise (frame_size (Good request))
 abbrev pub opening_rise : ℕ
 opening_rise = 4096
 
--- what a run comes to that began with this weight and took so many bytes
+-- what an engine comes to that began with this weight, by frames of so many bytes
+abbrev pub served_weight : (weight taken : ℕ) → ℕ
+served_weight weight taken = weight + 256 * taken
+
+-- what a run comes to, its opening with it
 abbrev pub run_weight : (weight taken : ℕ) → ℕ
 run_weight weight taken = weight + opening_rise + 256 * taken
 

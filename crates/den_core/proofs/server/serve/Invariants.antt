@@ -1,7 +1,8 @@
-use Rattle.std.proofs.Common.{◌≡◌, ◌-◌, IsTrue}
+use Rattle.std.proofs.Common.{◌≡◌, ◌+◌, ◌-◌, ◌≤◌, length, IsTrue}
 use Rattle.den_disk.specs.Goes.{DiskGoesOn, LinkGoesOn, ClockGoesOn, added}
 use Rattle.den_model.specs.Crash.{Tells}
 use Rattle.den_model.specs.Frames.{frames}
+use Rattle.den_core.specs.Weights.{served_weight}
 use Rattle.den_core.proofs.FramesSoFar.{SoFar}
 use Rattle.den_core.proofs.server.serve.Given as goal
 
@@ -16,6 +17,8 @@ invariant-frames g l =
       disk : DiskGoesOn D.kind D.moment D.images D.faults l.fn.disk l.disk;
       link : LinkGoesOn L.tells L.sent L.budget L.taken L.faults l.fn.link l.link;
       clock : ClockGoesOn C.tells C.readings l.fn.clock l.clock;
+      counted : IsTrue (L.tells l.fn.link) → L.taken l.link + length (L.left l.link) ≡ L.taken l.fn.link + length (L.left l.fn.link);
+      weight : S.weight l.stepper ≤ served_weight (S.weight l.fn.stepper) (L.taken l.link - L.taken l.fn.link);
       ready : S.ready l.stepper;
       rests : IsTrue (D.kind l.fn.disk).tells → S.rests l.stepper (D.content l.disk);
       so_far : Tells (D.kind l.fn.disk).tells (L.tells l.fn.link) (C.tells l.clock)
