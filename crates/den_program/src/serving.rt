@@ -44,7 +44,7 @@ fn serve_words<D: Disk, L: Link, C: Clock>(
     link: &mut L,
     clock: &mut C,
 ) -> Answer
-    ensures served { (kept : Durable) → result ≡ Some (Ok ()) → Tells (D.kind disk.old).tells (L.tells link.old) (C.tells clock.new)
+    ensures served { (kept : Durable) → result ≡ Some (Ok tt) → Tells (D.kind disk.old).tells (L.tells link.old) (C.tells clock.new)
         → durable_in (D.content disk.old).reading ≡ Some kept
         → let readings = added (C.readings clock.old) (C.readings clock.new) in
         IsServed durable_in (D.images disk.new) (D.moment disk.new) (L.left link.new) (length readings) (length (frames frame_limit (L.left link.old)))
@@ -59,7 +59,7 @@ fn serve_words<D: Disk, L: Link, C: Clock>(
         (start kept) (plan_over (start kept) frame_limit (L.left link.old) (added (C.readings clock.old) (C.readings clock.new))) }
     ensures opening { (kept : Durable) → Tells (D.kind disk.old).tells (L.tells link.old) (C.tells clock.new)
         → durable_in (D.content disk.old).reading ≡ Some kept
-        → SurvivesOpening durable_in (D.images disk.old) (D.images disk.new) (D.moment disk.old) (D.moment disk.new) (result ≡ Some (Ok ()))
+        → SurvivesOpening durable_in (D.images disk.old) (D.images disk.new) (D.moment disk.old) (D.moment disk.new) (result ≡ Some (Ok tt))
         (D.content disk.new ≡ D.content disk.old) (added (L.sent link.old) (L.sent link.new))
         (start kept) (plan_over (start kept) frame_limit (L.left link.old) (added (C.readings clock.old) (C.readings clock.new))) }
     ensures disk { DiskGoesOn D.kind D.moment D.images D.faults disk.old disk.new }
@@ -77,7 +77,7 @@ fn serve_words<D: Disk, L: Link, C: Clock>(
     ensures complete { IsTrue (D.kind disk.old).tells → IsTrue (L.tells link.old) → refusal_in (D.content disk.old).reading ≡ None
         → (Rose (D.faults disk.old) (D.faults disk.new) → ⊥) → (Rose (L.faults link.old) (L.faults link.new) → ⊥)
         → (IsMuch (D.kind disk.old).limit (files_size (D.content disk.old).reading + length (L.left link.old)) → ⊥)
-        → (result ≡ None → ⊥) → (result ≡ Some (Ok ())) ⊎ (result ≡ Some (Err OutOfMemory)) }
+        → (result ≡ None → ⊥) → (result ≡ Some (Ok tt)) ⊎ (result ≡ Some (Err OutOfMemory)) }
 {
     let Some(_) = folder_word(words) else {
         return None;

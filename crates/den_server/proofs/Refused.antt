@@ -167,7 +167,7 @@ failure_refused rose rose' told most place refusal l h s e grow same failure = �
 
 -- an error that refuses is some
 pub some_refused : (refusal other : Option Error) (e : Error) → refusal ≡ other → refusal ≡ Some e → IsSome other
-some_refused refusal other e same is = subst IsSome (sym is ∙ same) (record {})
+some_refused refusal other e same is = subst IsSome (sym is ∙ same) refl
 
 -- ---- results
 

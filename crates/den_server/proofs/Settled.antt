@@ -36,17 +36,17 @@ none_then old mid new from between to low high past one two = record {
 }
 
 -- an opening that failed has synced, or left all as it was
-pub settled_or_same : {A : Type 0} (e : Error) (old new : Content) → IsSettled {A = A} (Err e) old new → (new ≡ old) ⊎ (new.pending ≡ [])
-settled_or_same error.OutOfMemory old new h = inr h
-settled_or_same error.StorageIoError old new h = h
-settled_or_same (error.DataCorruption place offset) old new h = inr h
-settled_or_same (error.DiskFull needed limit) old new h = inr h
-settled_or_same error.LinkFault old new h = inr h
-settled_or_same error.FeatureNotEnabled old new h = inr h
-settled_or_same error.ProposeFailed old new h = inr h
-settled_or_same (error.UnorderedChunk index) old new h = inr h
-settled_or_same (error.Config place) old new h = inr h
-settled_or_same error.NotEmpty old new h = inr h
+pub settled_or_same : (A : Type 0) (e : Error) (old new : Content) → IsSettled {A = A} (Err e) old new → (new ≡ old) ⊎ (new.pending ≡ [])
+settled_or_same A error.OutOfMemory old new h = inr h
+settled_or_same A error.StorageIoError old new h = h
+settled_or_same A (error.DataCorruption place offset) old new h = inr h
+settled_or_same A (error.DiskFull needed limit) old new h = inr h
+settled_or_same A error.LinkFault old new h = inr h
+settled_or_same A error.FeatureNotEnabled old new h = inr h
+settled_or_same A error.ProposeFailed old new h = inr h
+settled_or_same A (error.UnorderedChunk index) old new h = inr h
+settled_or_same A (error.Config place) old new h = inr h
+settled_or_same A error.NotEmpty old new h = inr h
 
 -- no sync succeeded
 pub never_settles : (images : ℕ → Files → Type 0) (from to : ℕ) (ok same : Type 0) (reading : Files) → from ≤ to → (ok → ⊥) → same → Settles images from to ok same reading

@@ -12,6 +12,8 @@ use Rattle.den_model.specs.Crash.{IsAfterSome, Survives, Stands, SentWithin, IsS
 use Rattle.den_model.proofs.Runs.{output_front}
 use Rattle.den_core.proofs.Lists.{added_none, sent_by_all, sent_by_none}
 use Rattle.den_core.proofs.Stretch.{goes_on}
+use Rattle.den_codec.specs.declared.config.RaftNodeConfig.{RaftNodeConfig}
+use Rattle.den_codec.specs.Standard.{entered}
 use Rattle.den_server.specs.Opening.{SurvivesOpening}
 
 -- what is read is an image
@@ -43,6 +45,11 @@ module _ (holds : Files → Option Durable) where
     behind = goes_on holds mid_images images s.synced mid to [] sent kv kv [] (steps kv) early high past s.behind (record { state = refl; bytes = refl })
         (subst (λ (k : Kv). Survives holds images mid to sent k (steps k)) equal run);
   }
+
+  -- an opening under an equal configuration
+  pub of_node : (old_images images : ℕ → Files → Type 0) (from to : ℕ) (ok same : Type 0) (n m : RaftNodeConfig) (kept : Durable) → n ≡ m
+      → SurvivesOpening holds old_images images from to ok same [] (entered n kept) [] → SurvivesOpening holds old_images images from to ok same [] (entered m kept) []
+  of_node old_images images from to ok same n m kept equal s = subst (λ (k : RaftNodeConfig). SurvivesOpening holds old_images images from to ok same [] (entered k kept) []) equal s
 
   -- a run that ended with its opening took no reading and sent nothing
   pub no_reading : (old_images images : ℕ → Files → Type 0) (from to : ℕ) (ok same : Type 0) (sent : List (ℕ × ℕ)) (kv : Kv) (limit : ℕ) (left readings : List ℕ)

@@ -88,7 +88,7 @@ impl StandaloneEngine {
         ensures complete { IsTrue (D.kind disk.old).tells → IsTrue (L.tells link.old) → refusal_in (D.content disk.old).reading ≡ None
             → (Rose (D.faults disk.old) (D.faults disk.new) → ⊥) → (Rose (L.faults link.old) (L.faults link.new) → ⊥)
             → (IsMuch (D.kind disk.old).limit (files_size (D.content disk.old).reading + length (L.left link.old)) → ⊥)
-            → (result ≡ Ok ()) ⊎ (result ≡ Err OutOfMemory) }
+            → (result ≡ Ok tt) ⊎ (result ≡ Err OutOfMemory) }
         ensures disk { DiskGoesOn D.kind D.moment D.images D.faults disk.old disk.new }
         ensures link { LinkGoesOn L.tells L.sent L.budget L.taken L.faults link.old link.new }
         ensures clock { ClockGoesOn C.tells C.readings clock.old clock.new }

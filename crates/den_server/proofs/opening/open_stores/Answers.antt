@@ -96,7 +96,7 @@ returns-in-Err-clause-settles g c = λ told.
     (λ same. never_settles (D.images d1) (D.moment d0) (D.moment d1) _ _ (D.content d0).reading later (λ ok. cc ok) same)
     (λ none. settles_now (D.images d1) (D.moment d0) (D.moment d1) _ _ (D.content d0).reading (D.content d1) later (λ files. g.met.D.Disk.images_now d1 files told1)
     (same_reading (D.content d0) (D.content d1) (c.new.ensures.spares told)) none)
-    (settled_or_same c.in-Err.error (D.content d0) (D.content d1) (c.in-Err.ensures.settled told))
+    (settled_or_same (Unit {0}) c.in-Err.error (D.content d0) (D.content d1) (c.in-Err.ensures.settled told))
 
 pub returns-in-Err-new-clause-settles : goal.returns-in-Err-new-clause-settles
 returns-in-Err-new-clause-settles g c = λ told.

@@ -19,7 +19,7 @@ use Rattle.den_server.specs.Causes.{IsRunRefusal}
 use Rattle.den_server.specs.Opening.{refusal_in, SurvivesOpening}
 use Rattle.den_server.proofs.Ended.{rose_then, opening_ended, serving_ended, away, refused_not_read, full_serving, full_opening, completed}
 use Rattle.den_server.proofs.Refused.{if_err_weaker}
-use Rattle.den_server.proofs.Surviving.{reading_image, opening_then, no_reading, all_along, opening_front, served_from}
+use Rattle.den_server.proofs.Surviving.{reading_image, of_node, opening_then, no_reading, all_along, opening_front, served_from}
 use Rattle.den_server.proofs.standalone.StandaloneEngine.run.Goals as goal
 
 -- ---- the opening was refused
@@ -31,8 +31,7 @@ returns-in-Err-clause-opening g c = λ kept told stands.
     let last = c.open_folder.new.disk in
     no_reading durable_in (D.images first) (D.images last) (D.moment first) (D.moment last) _ _ (g.L.Link.sent c.args.link.now) (entered c.args.config.now.node kept)
     c.args.config.now.node.network.max_frame_size (g.L.Link.left c.args.link.now) (g.C.Clock.readings c.args.clock.now)
-    (subst (λ (n : RaftNodeConfig). SurvivesOpening durable_in (D.images first) (D.images last) (D.moment first) (D.moment last) _ _ [] (entered n kept) []) c.node.ensures
-    (c.in-Err.ensures.opening kept told.disk_tells stands))
+    (of_node durable_in (D.images first) (D.images last) (D.moment first) (D.moment last) _ _ _ _ kept c.node.ensures (c.in-Err.ensures.opening kept told.disk_tells stands))
 
 pub returns-in-Err-clause-any_moment : goal.returns-in-Err-clause-any_moment
 returns-in-Err-clause-any_moment g c = λ kept told stands.
@@ -53,7 +52,11 @@ returns-in-Err-clause-prefix g c = λ kept told stands.
     (returns-in-Err-clause-opening g c kept told stands)
 
 pub returns-in-Err-clause-refused : goal.returns-in-Err-clause-refused
-returns-in-Err-clause-refused g c = opening_ended _ _ _ _ _ _ c.in-Err.ensures.refused
+returns-in-Err-clause-refused g c =
+    let D = g.D.Disk in
+    let first = c.args.disk.now in
+    opening_ended (Rose (D.faults first) (D.faults c.open_folder.new.disk)) (Rose (g.L.Link.faults c.args.link.now) (g.L.Link.faults c.args.link.now)) (IsTrue (D.kind first).tells) (D.kind first).limit
+    (refusal_in (D.content first).reading) c.in-Err.error c.in-Err.ensures.refused
 
 pub returns-in-Err-clause-turned_away : goal.returns-in-Err-clause-turned_away
 returns-in-Err-clause-turned_away g c = λ e told is.
@@ -80,8 +83,7 @@ returns-clause-opening g c = λ kept told stands.
     sent (entered c.args.config.now.node kept) _
     (λ (k : Kv). plan_over k c.args.config.now.node.network.max_frame_size (g.L.Link.left c.args.link.now) readings)
     refl goes.later goes.past
-    (subst (λ (n : RaftNodeConfig). SurvivesOpening durable_in (D.images first) (D.images opened) (D.moment first) (D.moment opened) _ _ [] (entered n kept) []) c.node.ensures
-    (c.in-Ok.ensures.opening kept told.disk_tells stands))
+    (of_node durable_in (D.images first) (D.images opened) (D.moment first) (D.moment opened) _ _ _ _ kept c.node.ensures (c.in-Ok.ensures.opening kept told.disk_tells stands))
     (c.in-Ok.ensures.kv kept told.disk_tells stands ∙ ap (λ (n : RaftNodeConfig). entered n kept) c.node.ensures)
     (subst (λ (n : RaftNodeConfig). Survives durable_in (D.images last) (D.moment opened) (D.moment last)
     sent (kv_of (file_state c.in-Ok.engine.meta) c.in-Ok.engine.state.map c.in-Ok.engine.running)
@@ -140,6 +142,10 @@ pub returns-clause-full : goal.returns-clause-full
 returns-clause-full g c = λ told. if_err_weaker c.run_from.result _ _
     (λ e h.
     let D = g.D.Disk in
-    full_serving _ _ (files_size (D.content c.args.disk.now).reading) _ e (c.in-Ok.ensures.weight told)
-    (subst (λ (k : Kind). IsHeavy k.limit _ e) c.open_folder.ensures.disk.same h))
+    let L = g.L.Link in
+    let engine = c.in-Ok.engine in
+    let weight = engine.log.gate.end + engine.meta.gate.end + engine.state.gate.end in
+    let taken = L.taken c.run_from.new.link - L.taken c.args.link.now in
+    full_serving (D.kind c.args.disk.now).limit weight (files_size (D.content c.args.disk.now).reading) taken e (c.in-Ok.ensures.weight told)
+    (subst (λ (k : Kind). IsHeavy k.limit (run_weight weight taken) e) c.open_folder.ensures.disk.same h))
     c.run_from.ensures.heavy
