@@ -1,15 +1,14 @@
 -- What the changes of a log in memory make of the log.
-use Rattle.std.proofs.Common.{◌≡◌, ℕ, zero, suc, ◌+◌, ◌-◌, ◌<◌, ◌≤◌, ◌⊎◌, inl, inr, Bool, true, false, cond, List, [], ◌∷◌, ◌++◌, length, get_or, take, drop, Option, Some, None, refl, sym, ap, ◌∙◌, subst, arith}
+use Rattle.std.proofs.Common.{◌≡◌, ℕ, suc, ◌+◌, ◌-◌, ◌<◌, ◌≤◌, inl, inr, Bool, true, false, List, [], ◌∷◌, ◌++◌, length, get_or, Option, Some, None, refl, sym, ap, ◌∙◌, subst, arith}
 use Rattle.std.specs.List.{AllByRecursion}
-use Rattle.std.specs.Prelude.{nat_lt, nat_le, ◌&&◌, ◌||◌, not, is_none, is_some}
+use Rattle.std.specs.Prelude.{nat_lt, nat_le, ◌||◌, not, is_none, is_some}
 use Rattle.std.proofs.lemmas.Bool.{ltb-true, ltb-false, lt-ltb, le-ltb, le-leb, lt-leb, leb-true, and_from, and_parts, or_cases, cond-true, cond-false, cases_Bool}
 use Rattle.den_model.specs.declared.log_id.LogId.{LogId}
-use Rattle.den_model.specs.declared.region.LogRegion.TheVariants.{Append, Truncate, Purge, Replace, Reset}
+use Rattle.den_model.specs.declared.region.LogRegion.TheVariants.{Append, Purge, Replace}
 use Rattle.den_model.specs.Entries.{LogEntry, EntriesFrom, rise_above, rise_from, begin_from}
-use Rattle.den_model.specs.declared.region.LogRegion.{LogRegion}
 use Rattle.den_model.specs.Words.{FitsEntry, FitsLogRegion}
 use Rattle.den_store.specs.Order.{IsInOrder}
-use Rattle.den_store.proofs.Rising.{lower, replaced_rise, rise_from_above, rise_from_begins, above_rise, below_rise}
+use Rattle.den_store.proofs.Rising.{replaced_rise, rise_from_above, above_rise, below_rise}
 use Rattle.den_model.specs.Log.{Log, floor, below, above, changed, replaced, is_lawful, last_of}
 
 pub last_none : (i : ℕ) (es : List LogEntry) → length es ≤ 0 → last_of i es ≡ i

@@ -3,3 +3,4 @@ pub mod Joins
 pub mod Opens
 pub mod Owned
 pub mod Rising
+pub mod Sizes

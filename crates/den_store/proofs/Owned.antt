@@ -1,5 +1,5 @@
 -- What a call of a store leaves of its own family and of the others.
-use Rattle.std.proofs.Common.{◌≡◌, ◌⊎◌, inl, inr, ℕ, ◌≤◌, List, [], ◌∷◌, ◌++◌, Option, Some, None, Bool, true, Result, Ok, refl, sym, ap, ◌∙◌, subst, arith}
+use Rattle.std.proofs.Common.{◌≡◌, inl, ℕ, ◌≤◌, List, [], ◌∷◌, ◌++◌, Option, Some, None, true, Ok, refl, ap, ◌∙◌, subst, arith}
 use Rattle.den_disk.specs.declared.place.Family.{Family}
 use Rattle.den_disk.specs.declared.place.Family.TheVariants.{Log as log_family, Meta as meta_family}
 use Rattle.den_disk.specs.declared.place.Place.{Place}
@@ -10,7 +10,7 @@ use Rattle.den_model.specs.Spelling.{hard_state_word, log_region_word}
 use Rattle.den_model.specs.Words.{FitsHardState, FitsLogRegion}
 use Rattle.den_model.specs.Regions.{placed}
 use Rattle.den_model.specs.Image.{ok, hard_state_from}
-use Rattle.den_gate.specs.Gate.{HasList, KeepsOrAddsFamily}
+use Rattle.den_gate.specs.Gate.{KeepsOrAddsFamily}
 use Rattle.den_gate.proofs.Families.{has_meaning, adds_meaning}
 use Rattle.den_model.specs.declared.region.LogRegion.TheVariants.{Append}
 use Rattle.den_model.specs.Entries.{LogEntry}

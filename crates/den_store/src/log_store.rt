@@ -1,11 +1,12 @@
 //! The log store over a gate file.
-ghost use Rattle.std.specs.Prelude.{◌≡◌, IsTrue, Ok, Err, IfOk, IfErr};
+ghost use Rattle.std.specs.Prelude.{◌≡◌, ◌≤◌, IsTrue, Ok, Err, IfOk, IfErr};
 ghost use Rattle.den_disk.specs.declared.place.Family.TheVariants.{Log as log_family};
 ghost use Rattle.den_disk.specs.Place.{place_number};
 ghost use Rattle.den_disk.specs.Goes.{DiskGoesOn, Rose};
 ghost use Rattle.den_disk.specs.Families.{SparesAll, NoNewImages};
 ghost use Rattle.den_model.specs.Image.{slot_of, log_in};
-ghost use Rattle.den_store.specs.FileLog.{file_log, file_place, log_held, IsLogReady, LogRests, log_rests_own, log_holds_own, log_rests_hold};
+ghost use Rattle.den_model.specs.Sizes.{entries_size, family_size};
+ghost use Rattle.den_store.specs.FileLog.{file_log, file_place, log_weight, log_held, IsLogReady, LogRests, log_rests_own, log_holds_own, log_rests_hold};
 ghost use Rattle.den_store.specs.Folding.{IsUnread};
 ghost use Rattle.den_store.specs.Opening.{IsSettled};
 
@@ -35,6 +36,8 @@ impl FileLogStore {
         ensures spares { IsTrue (D.kind disk.old).tells → SparesAll (D.content disk.old) (D.content disk.new) }
         ensures settled { IsTrue (D.kind disk.old).tells → IsSettled result (D.content disk.old) (D.content disk.new) }
         ensures opened { IsTrue (D.kind disk.old).tells → IfOk result (λ s. log_in (D.content disk.old).reading ≡ Ok (file_log s)) }
+        ensures weight { IsTrue (D.kind disk.old).tells → IfOk result (λ s. log_weight s ≡ family_size log_family (D.content disk.old).reading) }
+        ensures entries { IsTrue (D.kind disk.old).tells → IfOk result (λ s. entries_size (file_log s).entries ≤ family_size log_family (D.content disk.old).reading) }
         ensures place { IsTrue (D.kind disk.old).tells → IfOk result (λ s. file_place s ≡ place_number (slot_of log_family (D.content disk.old).reading)) }
         ensures ready { IfOk result IsLogReady }
         ensures rests { IsTrue (D.kind disk.old).tells → IfOk result (λ s. LogRests s (D.content disk.new)) }
@@ -63,6 +66,8 @@ impl<D: Disk> LogStore<D> for FileLogStore {
 
     ghost place = { file_place };
 
+    ghost weight = { log_weight };
+
     ghost in_order = { λ s. s.held.order };
 
     ghost rests_own = { log_rests_own };
@@ -84,6 +89,10 @@ impl<D: Disk> LogStore<D> for FileLogStore {
             }
             Err(error) => Err(refusal(Family::Log, error)),
         }
+    }
+
+    fn is_failed(&self) -> bool {
+        self.gate.is_failed()
     }
 
     fn get_entries(&self, first: u64, last: u64) -> Result<Rows<Entry>, Error> {

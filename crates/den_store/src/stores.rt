@@ -12,7 +12,7 @@ ghost use Rattle.den_model.specs.Entries.{rise_from};
 ghost use Rattle.den_model.specs.Log.{Log, between, floor, changed, last_index};
 ghost use Rattle.den_model.specs.declared.region.LogRegion.TheVariants.{Append};
 ghost use Rattle.den_model.specs.declared.log_id.HardState.{HardState};
-ghost use Rattle.den_store.specs.Causes.{IsRefusal};
+ghost use Rattle.den_store.specs.Causes.{IsRefusal, IsOfDisk};
 ghost use Rattle.den_store.specs.Order.{IsInOrder};
 
 use den_codec::{Entry, Error, HardState, LogId, Rows};
@@ -54,7 +54,12 @@ pub trait LogStore<D: Disk>: Drop {
         ensures ready { OnOk result (ready self.new) }
         ensures rests { OnOk result (IsTrue (D.kind disk.old).tells → rests self.new (D.content disk.new)) }
         ensures refused { IfErr result (λ e. IsRefusal (Rose (D.faults disk.old) (D.faults disk.new)) (D.kind disk.old).limit e) }
-        ensures heavy { IfErr result (IsHeavy (D.kind disk.old).limit (weight self.old + store_rise (entries_size entries.now))) };
+        ensures heavy { IfErr result (IsHeavy (D.kind disk.old).limit (weight self.old + store_rise (entries_size entries.now))) }
+
+        // Want of memory changes nothing. What the disk refused is of no more use.
+        ensures kept { IfErr result (λ e. e ≡ OutOfMemory → (disk.new ≡ disk.old) × (log self.new ≡ log self.old) × (weight self.new ≡ weight self.old) × ready self.new) }
+        ensures unmoved { IfErr result (λ e. e ≡ OutOfMemory → IsTrue (D.kind disk.old).tells → rests self.new (D.content disk.new)) }
+        ensures failed { IfErr result (λ e. IsOfDisk e → ready self.new → ⊥) };
 
     /// Whether a refusal of the disk left it of no more use. It is opened anew then.
     fn is_failed(&self) -> bool
@@ -119,7 +124,11 @@ pub trait MetaStore<D: Disk>: Drop {
         ensures ready { OnOk result (ready self.new) }
         ensures rests { OnOk result (IsTrue (D.kind disk.old).tells → rests self.new (D.content disk.new)) }
         ensures refused { IfErr result (λ e. IsRefusal (Rose (D.faults disk.old) (D.faults disk.new)) (D.kind disk.old).limit e) }
-        ensures heavy { IfErr result (IsHeavy (D.kind disk.old).limit (weight self.old + store_rise (length (hard_state_word state.now)))) };
+        ensures heavy { IfErr result (IsHeavy (D.kind disk.old).limit (weight self.old + store_rise (length (hard_state_word state.now)))) }
+
+        // Want of memory changes nothing. What the disk refused is of no more use.
+        ensures kept { IfErr result (λ e. e ≡ OutOfMemory → (disk.new ≡ disk.old) × (self.new ≡ self.old)) }
+        ensures failed { IfErr result (λ e. IsOfDisk e → ready self.new → ⊥) };
 
     /// Whether a refusal of the disk left it of no more use. It is opened anew then.
     fn is_failed(&self) -> bool

@@ -1,4 +1,4 @@
-use Rattle.std.proofs.Common.{◌≡◌, ℕ, Bool, true, List, ◌∙◌, sym, ap, subst}
+use Rattle.std.proofs.Common.{◌≡◌, ℕ, true, List, ◌∙◌, sym, ap, subst}
 use Rattle.den_model.specs.declared.region.LogRegion.{LogRegion}
 use Rattle.den_model.specs.declared.region.LogRegion.TheVariants.{Purge}
 use Rattle.den_model.specs.Entries.{LogEntry, rise_above}
