@@ -1,5 +1,5 @@
 -- Why a chunk of entries is refused.
-use Rattle.std.specs.Prelude.{◌≡◌, ◌<◌, ◌||◌, ℕ, Bool, true, false, List, [], ◌∷◌, length, Option, Some, None, nat_lt, if◌then◌else◌}
+use Rattle.std.specs.Prelude.{◌≡◌, ◌<◌, ◌⊎◌, ◌||◌, ℕ, Bool, true, false, List, [], ◌∷◌, length, Option, Some, None, nat_lt, if◌then◌else◌}
 use Rattle.den_codec.specs.declared.error.Error.{Error}
 use Rattle.den_codec.specs.declared.error.Error.TheVariants.{OutOfMemory, StorageIoError, DiskFull, FeatureNotEnabled, UnorderedChunk}
 use Rattle.den_model.specs.Entries.{LogEntry}
@@ -29,3 +29,12 @@ IsChunkRefusal rose most mark chunk OutOfMemory = (out_of_order mark chunk ≡ N
 IsChunkRefusal rose most mark chunk StorageIoError = (out_of_order mark chunk ≡ None) × (asks_lease chunk ≡ false) × rose
 IsChunkRefusal rose most mark chunk (DiskFull needed limit) = (out_of_order mark chunk ≡ None) × (asks_lease chunk ≡ false) × (limit < needed) × (limit ≡ most)
 IsChunkRefusal rose most mark chunk _ = ⊥
+
+-- what a refusal leaves: all as it was, or a state machine of no more use; want of memory either
+abbrev pub LeavesOrEnds : (untouched ended : Type 0) → Error → Type 0
+LeavesOrEnds untouched ended (UnorderedChunk index) = untouched
+LeavesOrEnds untouched ended FeatureNotEnabled = untouched
+LeavesOrEnds untouched ended OutOfMemory = untouched ⊎ ended
+LeavesOrEnds untouched ended StorageIoError = ended
+LeavesOrEnds untouched ended (DiskFull needed limit) = ended
+LeavesOrEnds untouched ended _ = Unit {0}

@@ -1,5 +1,5 @@
 //! The state machine in files.
-ghost use Rattle.std.specs.Prelude.{◌≡◌, ◌<◌, ◌↔◌, ◌∷◌, ◌++◌, ℕ, List, [], false, None, Ok, Err, IsTrue, IfOk, IfErr, OnOk, length, option_map};
+ghost use Rattle.std.specs.Prelude.{◌≡◌, ◌≤◌, ◌<◌, ◌↔◌, ◌+◌, ◌∷◌, ◌++◌, ℕ, List, [], false, None, Ok, Err, IsTrue, IfOk, IfErr, OnOk, length, option_map};
 ghost use Rattle.den_disk.specs.declared.place.Family.TheVariants.{State as state_family};
 ghost use Rattle.den_disk.specs.Goes.{Rose, DiskGoesOn};
 ghost use Rattle.den_disk.specs.Families.{SparesAll, SparesOthers, SparesImages, NoNewImages, OldOrNew};
@@ -7,9 +7,11 @@ ghost use Rattle.den_model.specs.Image.{map_in};
 ghost use Rattle.den_model.specs.MapState.{map_applied_all, results_of, part_of};
 ghost use Rattle.den_model.specs.Apply.{value_at};
 ghost use Rattle.den_model.specs.declared.region.StateRegion.TheVariants.{Records};
+ghost use Rattle.den_model.specs.Sizes.{entries_size, family_size, store_rise};
 ghost use Rattle.den_model.specs.Spelling.{state_region_word};
+ghost use Rattle.den_codec.specs.Full.{IsHeavy};
 ghost use Rattle.den_gate.specs.Gate.{payloads};
-ghost use Rattle.den_state.specs.Chunk.{out_of_order, asks_lease, IsChunkRefusal};
+ghost use Rattle.den_state.specs.Chunk.{out_of_order, asks_lease, IsChunkRefusal, LeavesOrEnds};
 ghost use Rattle.den_state.specs.Journal.{all_recorded};
 ghost use Rattle.den_state.specs.Machine.{IsReady, Rests, IsDurable, IsOpeningRefusal, OnUntouched, journaled, map_held, state_error};
 ghost use Rattle.den_state.specs.Laws.{rests_spared, held_own, rests_image};
@@ -62,6 +64,7 @@ impl FileStateMachine {
         ensures synced { IsTrue (D.kind disk.old).tells → IsDurable result (D.content disk.new) }
         ensures opened { IsTrue (D.kind disk.old).tells → IfOk result (λ s. map_in (D.content disk.old).reading ≡ Ok s.map) }
         ensures ready { IfOk result IsReady }
+        ensures weight { IsTrue (D.kind disk.old).tells → IfOk result (λ s. s.gate.end ≡ family_size state_family (D.content disk.old).reading) }
         ensures rests { IsTrue (D.kind disk.old).tells → IfOk result (λ s. Rests s (D.content disk.new)) }
         ensures refused { IfErr result (IsOpeningRefusal (Rose (D.faults disk.old) (D.faults disk.new)) (D.kind disk.old).tells (D.content disk.old).reading) }
     {
@@ -101,11 +104,14 @@ impl FileStateMachine {
         ensures spares { IsTrue (D.kind disk.old).tells → SparesOthers state_family (D.content disk.old) (D.content disk.new) }
         ensures applied { OnOk result ((self.new).map ≡ map_applied_all (self.old).map chunk.now) }
         ensures results { IfOk result (λ results. results ≡ results_of (self.old).map chunk.now) }
+        ensures weight { OnOk result (self.new.gate.end ≤ self.old.gate.end + store_rise (entries_size chunk.now)) }
         ensures ready { OnOk result (IsReady self.new) }
         ensures rests { OnOk result (IsTrue (D.kind disk.old).tells → Rests self.new (D.content disk.new)) }
         ensures appended { OnOk result (IsTrue (D.kind disk.old).tells →
             payloads (self.new).gate (D.content disk.new).reading ≡ payloads (self.old).gate (D.content disk.old).reading ++ state_region_word (Records (all_recorded (self.old).map chunk.now)) ∷ []) }
         ensures refused { IfErr result (IsChunkRefusal (Rose (D.faults disk.old) (D.faults disk.new)) (D.kind disk.old).limit (self.old).map.mark.index chunk.now) }
+        ensures heavy { IfErr result (IsHeavy (D.kind disk.old).limit (self.old.gate.end + store_rise (entries_size chunk.now))) }
+        ensures failed { IfErr result (LeavesOrEnds ⊥ (IsReady self.new → ⊥)) }
     {
         self.failed = true;
         let journaled = self.map.journal(self.alloc, chunk)?;
@@ -114,7 +120,11 @@ impl FileStateMachine {
                 self.failed = false;
                 Ok(Rows::of(journaled.results))
             }
-            Err(error) => Err(state_error(error)),
+            Err(error) => {
+                let limit = disk.limit();
+                prove!(8_796_093_022_208 <= limit);
+                Err(state_error(error))
+            }
         }
     }
 
@@ -123,20 +133,6 @@ impl FileStateMachine {
         ensures { result ≡ length self.now.map.pairs }
     {
         self.map.len()
-    }
-
-    /// Whether a key has an expiry.
-    pub fn holds_expiry(&self) -> bool
-        ensures { IsTrue result ↔ (0 < length self.now.map.expiries) }
-    {
-        0 < self.map.expiry_count()
-    }
-
-    /// Whether a call failed after it had begun to change the map. It is opened anew then.
-    pub fn is_failed(&self) -> bool
-        ensures { IsTrue result ↔ (IsReady self.now → ⊥) }
-    {
-        self.failed || self.gate.is_failed()
     }
 }
 
@@ -148,6 +144,9 @@ impl<D: Disk> StateMachine<D> for FileStateMachine {
     ghost rests = { Rests };
 
     ghost ready = { IsReady };
+
+    /// The regions of its journal.
+    ghost weight = { λ s. s.gate.end };
 
     ghost rests_own = { rests_spared };
 
@@ -167,9 +166,12 @@ impl<D: Disk> StateMachine<D> for FileStateMachine {
         ensures applied { OnOk result ((self.new).map ≡ map_applied_all (self.old).map chunk.now) }
         ensures results { IfOk result (λ results. results ≡ results_of (self.old).map chunk.now) }
         ensures in_order { OnOk result ((out_of_order (self.old).map.mark.index chunk.now ≡ None) × (asks_lease chunk.now ≡ false)) }
+        ensures weight { OnOk result (self.new.gate.end ≤ self.old.gate.end + store_rise (entries_size chunk.now)) }
         ensures ready { OnOk result (IsReady self.new) }
         ensures rests { OnOk result (IsTrue (D.kind disk.old).tells → Rests self.new (D.content disk.new)) }
         ensures refused { IfErr result (IsChunkRefusal (Rose (D.faults disk.old) (D.faults disk.new)) (D.kind disk.old).limit (self.old).map.mark.index chunk.now) }
+        ensures heavy { IfErr result (IsHeavy (D.kind disk.old).limit (self.old.gate.end + store_rise (entries_size chunk.now))) }
+        ensures failed { IfErr result (LeavesOrEnds ((self.new ≡ self.old) × (disk.new ≡ disk.old)) (IsReady self.new → ⊥)) }
         ensures untouched { IfErr result (OnUntouched ((self.new ≡ self.old) × (disk.new ≡ disk.old))) }
         ensures nothing { chunk.now ≡ [] → (self.new ≡ self.old) × (disk.new ≡ disk.old) }
         ensures appended { OnOk result (IsTrue (D.kind disk.old).tells →
@@ -185,6 +187,15 @@ impl<D: Disk> StateMachine<D> for FileStateMachine {
             return Ok(Rows::of(Vec::new(self.alloc)));
         }
         self.commit(disk, chunk)
+    }
+
+    /// Whether a call failed after it had begun to change the map. It is opened anew then.
+    fn is_failed(&self) -> bool {
+        self.failed || self.gate.is_failed()
+    }
+
+    fn holds_expiry(&self) -> bool {
+        0 < self.map.expiry_count()
     }
 
     fn get(&self, key: &[u8]) -> Option<&Blob> {

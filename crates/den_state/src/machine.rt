@@ -9,7 +9,7 @@ ghost use Rattle.den_model.specs.MapState.{MapState, map_applied_all, results_of
 ghost use Rattle.den_model.specs.Apply.{value_at};
 ghost use Rattle.den_model.specs.Sizes.{entries_size, store_rise};
 ghost use Rattle.den_codec.specs.Full.{IsHeavy};
-ghost use Rattle.den_state.specs.Chunk.{out_of_order, asks_lease, has_expiry, IsChunkRefusal};
+ghost use Rattle.den_state.specs.Chunk.{out_of_order, asks_lease, has_expiry, IsChunkRefusal, LeavesOrEnds};
 
 use den_codec::{ApplyResult, Blob, Entry, Error, LogId, Rows};
 use den_disk::Disk;
@@ -33,8 +33,8 @@ pub trait StateMachine<D: Disk>: Drop {
     ghost weight: { Self → ℕ };
 
     /// Applies entries in order, each swap seeing the writes before it, and answers whether each succeeded. A chunk out
-    /// of order, or with a time to live where no lease is configured, is refused with nothing changed. A crash inside
-    /// leaves the old map or the new one.
+    /// of order, or with a time to live where no lease is configured, is refused with nothing changed; a fault of the
+    /// disk or a full one ends its use. A crash inside leaves the old map or the new one.
     fn apply_chunk(&mut self, disk: &mut D, chunk: &[Entry]) -> Result<Rows<ApplyResult>, Error>
         requires ready { ready self.old }
         requires rests { IsTrue (D.kind disk.old).tells → rests self.old (D.content disk.old) }
@@ -49,7 +49,8 @@ pub trait StateMachine<D: Disk>: Drop {
         ensures ready { OnOk result (ready self.new) }
         ensures rests { OnOk result (IsTrue (D.kind disk.old).tells → rests self.new (D.content disk.new)) }
         ensures refused { IfErr result (λ e. IsChunkRefusal (Rose (D.faults disk.old) (D.faults disk.new)) (D.kind disk.old).limit (map self.old).mark.index chunk.now e) }
-        ensures heavy { IfErr result (IsHeavy (D.kind disk.old).limit (weight self.old + store_rise (entries_size chunk.now))) };
+        ensures heavy { IfErr result (IsHeavy (D.kind disk.old).limit (weight self.old + store_rise (entries_size chunk.now))) }
+        ensures failed { IfErr result (LeavesOrEnds ((self.new ≡ self.old) × (disk.new ≡ disk.old)) (ready self.new → ⊥)) };
 
     /// Whether a refusal left it of no more use. It is opened anew then.
     fn is_failed(&self) -> bool

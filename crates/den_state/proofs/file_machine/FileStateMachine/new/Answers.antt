@@ -4,6 +4,7 @@ use Rattle.den_disk.specs.Place.{place_number}
 use Rattle.den_codec.specs.declared.error.Error.TheVariants as error
 use Rattle.den_disk.specs.Files.{Kind}
 use Rattle.den_state.proofs.Resting.{opened_as, list_gives, opening_refused}
+use Rattle.den_state.proofs.Weighing.{weight_opened}
 use Rattle.den_state.proofs.file_machine.FileStateMachine.new.Goals as goal
 
 pub returns-in-Ok-add_list-clause-opened : goal.returns-in-Ok-add_list-clause-opened
@@ -28,3 +29,8 @@ returns-clause-refused g c =
           (list_gives c.in-Ok.gate content c.at-map.result c.in-Ok-regions.list c.as_slice.result.now (Err offset) c.at-map.ensures c.as_slice.ensures (c.in-Ok-regions.ensures.payloads still)
           (loaded.at_rest tells) (λ small. rw c.in-Err-Unlawful.field-0-is at (c.in-Err-Unlawful.ensures small))),
     ))
+
+pub returns-in-Ok-add_list-clause-weight : goal.returns-in-Ok-add_list-clause-weight
+returns-in-Ok-add_list-clause-weight g c = λ tells.
+    let loaded = c.in-Ok.ensures in
+    weight_opened c.in-Ok.gate (g.D.Disk.content c.args.disk.now) (g.D.Disk.content c.load.new.disk) (loaded.slot tells) (loaded.at_rest tells) (loaded.current tells) (loaded.spares tells)
