@@ -1,5 +1,5 @@
 -- Reads into a buffer, and the first frame of a stream.
-use Rattle.std.proofs.Common.{◌≡◌, ℕ, ◌≤◌, ◌<◌, ◌+◌, ◌-◌, Bool, true, false, inl, inr, List, [], ◌++◌, length, take, drop, refl, sym, ◌∙◌, ap, subst, arith, IsTrue, Ok, length-append, replicate, nat_eq}
+use Rattle.std.proofs.Common.{◌≡◌, ℕ, ◌≤◌, ◌<◌, ◌+◌, ◌-◌, Bool, true, false, inl, inr, List, [], ◌++◌, length, take, drop, sym, ◌∙◌, ap, subst, arith, IsTrue, Ok, length-append, replicate, nat_eq}
 use Rattle.std.proofs.lemmas.Bool.{cases_lt, eq-eqb, ne_eqb}
 use Rattle.std.proofs.lemmas.List.{take-append-drop, take-append-le, length-take-le, length-drop, drop-drop, take_all, take_at, drop_all, append-nil}
 use Rattle.std.proofs.Math.Seq.{take-append-add}

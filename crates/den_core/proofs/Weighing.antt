@@ -1,12 +1,11 @@
 -- How long the words are that an engine hands its stores, and when a disk may be told to be full of them.
-use Rattle.std.proofs.Common.{◌≡◌, ℕ, ◌<◌, ◌≤◌, ◌+◌, ◌-◌, ◌*◌, List, [], ◌∷◌, ◌++◌, length, Option, Some, None, Result, Ok, Err, IfErr, refl, sym, ◌∙◌, ap, subst, arith, length-append}
+use Rattle.std.proofs.Common.{◌≡◌, ℕ, ◌≤◌, ◌+◌, ◌-◌, ◌*◌, List, [], ◌∷◌, ◌++◌, length, Option, Some, None, Result, Ok, Err, IfErr, sym, ap, subst, arith, length-append}
 use Rattle.std.specs.Prelude.{IfSome}
 use Rattle.std.specs.Result.{IsErrAnd}
 use Rattle.den_codec.specs.Full.{IsHeavy}
 use Rattle.den_codec.specs.declared.error.Error.{Error}
 use Rattle.den_codec.specs.declared.error.Error.TheVariants.{OutOfMemory, StorageIoError, DiskFull, LinkFault, DataCorruption, FeatureNotEnabled, ProposeFailed, UnorderedChunk, Config, NotEmpty}
 use Rattle.den_model.specs.declared.command.Command.{Command}
-use Rattle.den_model.specs.declared.command.Command.TheVariants as command
 use Rattle.den_model.specs.declared.command.WriteOperation.{WriteOperation}
 use Rattle.den_model.specs.declared.command.WriteOperation.TheVariants as operation
 use Rattle.den_model.specs.declared.log_id.HardState.{HardState}

@@ -1,6 +1,7 @@
 //! The engine: the next entry into the log and onto the map, and the answer.
 ghost use Rattle.std.specs.Prelude.{◌≡◌, ◌<◌, ◌≤◌, ◌^◌, ◌-◌, ◌+◌, ℕ, IsTrue, List, [], ◌∷◌, Option, Some, OnOk, IfOk, IfErr, false};
-ghost use Rattle.den_disk.specs.Families.{OldOrNew};
+ghost use Rattle.den_disk.specs.declared.place.Family.TheVariants.{Snapshot as snapshot_family};
+ghost use Rattle.den_disk.specs.Families.{OldOrNew, SameOf};
 ghost use Rattle.den_disk.specs.Files.{Files, Content, IsImage};
 ghost use Rattle.den_disk.specs.Goes.{Rose, DiskGoesOn};
 ghost use Rattle.den_model.specs.Apply.{applied, succeeds};
@@ -98,6 +99,7 @@ fn raise<D: Disk, G: LogStore<D>, T: MetaStore<D>, M: StateMachine<D>>(
         (T.rests engine.old.meta (D.content disk.old)) (M.rests engine.old.state (D.content disk.old)) }
     requires room { term_of (T.hard_state engine.old.meta) < 2 ^ 64 - 1 }
     ensures disk { DiskGoesOn D.kind D.moment D.images D.faults disk.old disk.new }
+    ensures snapshot { IsTrue (D.kind disk.old).tells → SameOf snapshot_family (D.content disk.old).reading (D.content disk.new).reading }
     ensures moves { IsTrue (D.kind disk.old).tells
         → OldOrNew (λ files. joined (G.holds files) (T.holds files) (M.holds files)) (D.images disk.new) (D.moment disk.old) (D.moment disk.new)
         (durable_of (T.hard_state engine.old.meta) (M.map engine.old.state))
@@ -138,6 +140,7 @@ fn commit<D: Disk, G: LogStore<D>, T: MetaStore<D>, M: StateMachine<D>>(
     requires moment { 1 ≤ moment }
     requires no_ttl { has_ttl command ≡ false }
     ensures disk { DiskGoesOn D.kind D.moment D.images D.faults disk.old disk.new }
+    ensures snapshot { IsTrue (D.kind disk.old).tells → SameOf snapshot_family (D.content disk.old).reading (D.content disk.new).reading }
     ensures moves { IsTrue (D.kind disk.old).tells
         → OldOrNew (λ files. joined (G.holds files) (T.holds files) (M.holds files)) (D.images disk.new) (D.moment disk.old) (D.moment disk.new)
         (durable_of (T.hard_state engine.old.meta) (M.map engine.old.state))
@@ -179,6 +182,7 @@ fn answer<D: Disk, G: LogStore<D>, T: MetaStore<D>, M: StateMachine<D>>(
     requires moment { 1 ≤ moment }
     requires built { IsBuiltFrame frame }
     ensures disk { DiskGoesOn D.kind D.moment D.images D.faults disk.old disk.new }
+    ensures snapshot { IsTrue (D.kind disk.old).tells → SameOf snapshot_family (D.content disk.old).reading (D.content disk.new).reading }
     ensures moves { IsTrue (D.kind disk.old).tells
         → OldOrNew (λ files. joined (G.holds files) (T.holds files) (M.holds files)) (D.images disk.new) (D.moment disk.old) (D.moment disk.new)
         (durable_of (T.hard_state engine.old.meta) (M.map engine.old.state))
