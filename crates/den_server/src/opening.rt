@@ -3,7 +3,8 @@ ghost use Rattle.std.specs.Prelude.{◌≡◌, ◌<◌, ◌≤◌, ◌+◌, ◌*
 ghost use Rattle.den_disk.specs.declared.place.Family.TheVariants.{Log as log_family};
 ghost use Rattle.den_disk.specs.Place.{place_number};
 ghost use Rattle.den_disk.specs.Goes.{Rose, DiskGoesOn};
-ghost use Rattle.den_disk.specs.Families.{NoNewImages, SparesAll};
+ghost use Rattle.den_disk.specs.declared.place.Family.TheVariants.{Snapshot as snapshot_family};
+ghost use Rattle.den_disk.specs.Families.{SameOf, NoNewImages, SparesAll};
 ghost use Rattle.den_model.specs.Entries.{LogEntry};
 ghost use Rattle.den_model.specs.Image.{durable_in, slot_of};
 ghost use Rattle.den_model.specs.Kv.{Durable};
@@ -100,6 +101,7 @@ pub fn open_folder<D: Disk>(
         → ⟦<Engine<FileLogStore, FileMetaStore, FileStateMachine> as Stepper<D>>⟧.weight engine ≤ opened_weight (files_size (D.content disk.old).reading)) }
     ensures ready { IfOk result (λ engine. ⟦<Engine<FileLogStore, FileMetaStore, FileStateMachine> as Stepper<D>>⟧.ready engine) }
     ensures rests { IfOk result (λ engine. IsTrue (D.kind disk.old).tells → ⟦<Engine<FileLogStore, FileMetaStore, FileStateMachine> as Stepper<D>>⟧.rests engine (D.content disk.new)) }
+    ensures snapshot { IsTrue (D.kind disk.old).tells → SameOf snapshot_family (D.content disk.old).reading (D.content disk.new).reading }
     ensures accepted { IfOk result (λ engine. IsTrue (D.kind disk.old).tells → refusal_in (D.content disk.old).reading ≡ None) }
     ensures refused { IfErr result (IsOpeningRefusal (Rose (D.faults disk.old) (D.faults disk.new)) (D.kind disk.old).limit (IsTrue (D.kind disk.old).tells)
         (refusal_in (D.content disk.old).reading)) }

@@ -1,7 +1,8 @@
 //! One voter over a disk, a link and a clock.
 ghost use Rattle.std.specs.Prelude.{◌≡◌, ◌+◌, ◌-◌, ◌⊎◌, Ok, Err, Some, None, IsTrue, IsOk, OnOk, IfErr, length};
 ghost use Rattle.den_disk.specs.Goes.{Rose, IsPrefix, added, DiskGoesOn, LinkGoesOn, ClockGoesOn};
-ghost use Rattle.den_disk.specs.Families.{NoNewImages};
+ghost use Rattle.den_disk.specs.declared.place.Family.TheVariants.{Snapshot as snapshot_family};
+ghost use Rattle.den_disk.specs.Families.{SameOf, NoNewImages};
 ghost use Rattle.den_model.specs.Crash.{Survives, Stands, IsServed, Tells, bytes_of};
 ghost use Rattle.den_model.specs.Frames.{frames};
 ghost use Rattle.den_model.specs.Image.{durable_in};
@@ -89,6 +90,8 @@ impl StandaloneEngine {
             → (Rose (D.faults disk.old) (D.faults disk.new) → ⊥) → (Rose (L.faults link.old) (L.faults link.new) → ⊥)
             → (IsMuch (D.kind disk.old).limit (files_size (D.content disk.old).reading + length (L.left link.old)) → ⊥)
             → (result ≡ Ok tt) ⊎ (result ≡ Err OutOfMemory) }
+        // The files of the snapshot stay as they are.
+        ensures snapshot { IsTrue (D.kind disk.old).tells → SameOf snapshot_family (D.content disk.old).reading (D.content disk.new).reading }
         ensures disk { DiskGoesOn D.kind D.moment D.images D.faults disk.old disk.new }
         ensures link { LinkGoesOn L.tells L.sent L.budget L.taken L.faults link.old link.new }
         ensures clock { ClockGoesOn C.tells C.readings clock.old clock.new }

@@ -1,0 +1,43 @@
+use Rattle.std.proofs.Common.{◌≡◌, Bool, IsTrue, refl}
+use Rattle.den_model.specs.Image.{durable_in}
+use Rattle.den_server.proofs.Surviving.{reading_image, all_along}
+use Rattle.den_program.specs.Serving.{start, frame_limit}
+use Rattle.den_program.proofs.Served.{untouched}
+use Rattle.den_program.proofs.serving.serve_words.Goals as goal
+
+-- ---- no call was made
+
+pub returns-in_default-clause-opening : goal.returns-in_default-clause-opening
+returns-in_default-clause-opening g c = λ kept told stands.
+    let D = g.D.Disk in
+    let disk = c.args.disk.now in
+    untouched durable_in (D.images disk) (D.moment disk) _ _ (D.content disk).reading (g.L.Link.sent c.args.link.now) (start kept) frame_limit (g.L.Link.left c.args.link.now) (g.C.Clock.readings c.args.clock.now)
+    stands (λ ok. absurd (cc ok)) refl
+
+pub returns-in_default-clause-any_moment : goal.returns-in_default-clause-any_moment
+returns-in_default-clause-any_moment g c = λ kept told stands.
+    let D = g.D.Disk in
+    let disk = c.args.disk.now in
+    all_along durable_in (D.images disk) (D.images disk) (D.moment disk) (D.moment disk) _ _ _ _ _ stands
+    (returns-in_default-clause-opening g c kept told
+    (stands.each (D.content disk).reading ((g.met.D.Disk.images_now disk (D.content disk).reading told.disk_tells).1 (reading_image (D.content disk)))))
+
+pub returns-in-Err-clause-opening : goal.returns-in-Err-clause-opening
+returns-in-Err-clause-opening g c = λ kept told stands.
+    let D = g.D.Disk in
+    let disk = c.args.disk.now in
+    untouched durable_in (D.images disk) (D.moment disk) _ _ (D.content disk).reading (g.L.Link.sent c.args.link.now) (start kept) frame_limit (g.L.Link.left c.args.link.now) (g.C.Clock.readings c.args.clock.now)
+    stands (λ ok. absurd (cc ok)) refl
+
+pub returns-in-Err-clause-any_moment : goal.returns-in-Err-clause-any_moment
+returns-in-Err-clause-any_moment g c = λ kept told stands.
+    let D = g.D.Disk in
+    let disk = c.args.disk.now in
+    all_along durable_in (D.images disk) (D.images disk) (D.moment disk) (D.moment disk) _ _ _ _ _ stands
+    (returns-in-Err-clause-opening g c kept told
+    (stands.each (D.content disk).reading ((g.met.D.Disk.images_now disk (D.content disk).reading told.disk_tells).1 (reading_image (D.content disk)))))
+
+-- ---- the run
+
+pub returns-clause-turned_away : goal.returns-clause-turned_away
+returns-clause-turned_away g c = λ e told is some. c.run.ensures.turned_away e told is
