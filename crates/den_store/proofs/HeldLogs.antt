@@ -8,7 +8,7 @@ use Rattle.den_model.specs.declared.region.LogRegion.TheVariants.{Append, Purge,
 use Rattle.den_model.specs.Entries.{LogEntry, EntriesFrom, rise_above, rise_from, begin_from}
 use Rattle.den_model.specs.Words.{FitsEntry, FitsLogRegion}
 use Rattle.den_store.specs.Order.{IsInOrder}
-use Rattle.den_store.proofs.Rising.{replaced_rise, rise_from_above, above_rise, below_rise}
+use Rattle.den_store.proofs.Rising.{lower, replaced_rise, rise_from_above, above_rise, below_rise}
 use Rattle.den_model.specs.Log.{Log, floor, below, above, changed, replaced, is_lawful, last_of}
 
 pub last_none : (i : ℕ) (es : List LogEntry) → length es ≤ 0 → last_of i es ≡ i
@@ -54,6 +54,10 @@ bounded None r b is f = absurd (cc (is, ap not f))
 bounded (Some x) r b is f = refl
 
 -- ---- the order of what a region makes
+
+-- entries in order rise from the least index on
+pub all_rise : (l : Log) (es : List LogEntry) → IsInOrder l → es ≡ l.entries → rise_above 0 es ≡ true
+all_rise l es order is = subst (λ (x : List LogEntry). rise_above 0 x ≡ true) (sym is) (lower 0 (floor l) l.entries (omega arith) order.rises)
 
 floor_none : (o : Option LogId) (es : List LogEntry) → is_none o ≡ true → let l : Log = record { boundary = o; entries = es } in floor l ≡ 0
 floor_none None es none = refl

@@ -3,6 +3,7 @@ pub mod FileLog
 pub mod FileMeta
 pub mod Folding
 pub mod Held
+pub mod Lookup
 pub mod Meanings
 pub mod Opening
 pub mod Order

@@ -95,6 +95,10 @@ impl<D: Disk> LogStore<D> for FileLogStore {
         self.gate.is_failed()
     }
 
+    fn entry(&self, index: u64) -> Result<Option<Entry>, Error> {
+        Ok(self.held.entry(index)?)
+    }
+
     fn get_entries(&self, first: u64, last: u64) -> Result<Rows<Entry>, Error> {
         Ok(self.held.range(self.alloc, first, last)?)
     }
@@ -105,6 +109,10 @@ impl<D: Disk> LogStore<D> for FileLogStore {
 
     fn place(&self) -> u8 {
         file_number(Family::Log, self.gate.part())
+    }
+
+    fn is_write_durable(&self) -> bool {
+        true
     }
 
     fn last_index(&self) -> u64 {

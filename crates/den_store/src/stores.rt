@@ -13,6 +13,7 @@ ghost use Rattle.den_model.specs.Log.{Log, between, floor, changed, last_index};
 ghost use Rattle.den_model.specs.declared.region.LogRegion.TheVariants.{Append};
 ghost use Rattle.den_model.specs.declared.log_id.HardState.{HardState};
 ghost use Rattle.den_store.specs.Causes.{IsRefusal, IsOfDisk};
+ghost use Rattle.den_store.specs.Lookup.{entry_at};
 ghost use Rattle.den_store.specs.Order.{IsInOrder};
 
 use den_codec::{Entry, Error, HardState, LogId, Rows};
@@ -69,6 +70,11 @@ pub trait LogStore<D: Disk>: Drop {
     fn last_index(&self) -> u64
         ensures { result ≡ last_index (log self.now) };
 
+    /// The entry of an index, if it is held.
+    fn entry(&self, index: u64) -> Result<Option<Entry>, Error>
+        ensures entry { IfOk result (λ found. found ≡ entry_at index (log self.now).entries) }
+        ensures refused { IfErr result (λ e. e ≡ OutOfMemory) };
+
     /// The entries from a first index up to a last one.
     fn get_entries(&self, first: u64, last: u64) -> Result<Rows<Entry>, Error>
         ensures entries { IfOk result (λ entries. entries ≡ between first last (log self.now).entries) }
@@ -81,6 +87,10 @@ pub trait LogStore<D: Disk>: Drop {
     /// The number of the file in which it lies.
     fn place(&self) -> u8
         ensures { result ≡ place self.now };
+
+    /// Whether what a call wrote is on the disk when it answers Ok, which it always is.
+    fn is_write_durable(&self) -> bool
+        ensures { result ≡ true };
 
     /// Its entries rise above its boundary.
     ghost in_order: { (s : Self) → IsInOrder (log s) };
