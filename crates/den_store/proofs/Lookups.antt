@@ -1,6 +1,6 @@
 -- Where the entry of an index stands.
-use Rattle.std.proofs.Common.{◌≡◌, ℕ, ◌+◌, ◌<◌, ◌≤◌, inl, inr, Bool, true, false, cond, List, [], ◌∷◌, length, drop, Option, Some, None, refl, sym, ap, ◌∙◌, subst, arith, ne_eqb, get_or, length-drop}
-use Rattle.std.specs.Prelude.{nat_lt, nat_le, nat_eq, ◌&&◌}
+use Rattle.std.proofs.Common.{◌≡◌, ℕ, ◌<◌, ◌≤◌, inl, inr, true, cond, List, [], ◌∷◌, length, drop, Option, Some, None, refl, sym, ap, ◌∙◌, arith, ne_eqb, get_or, length-drop}
+use Rattle.std.specs.Prelude.{nat_lt, nat_le, nat_eq}
 use Rattle.std.specs.List.{filter}
 use Rattle.std.proofs.lemmas.Bool.{and_parts, ltb-true, leb-false, leb-true, eq-eqb, cond-true, cond-false, cases_Bool}
 use Rattle.std.proofs.lemmas.List.{drop_more}

@@ -3,7 +3,7 @@ use Rattle.den_model.specs.declared.region.LogRegion.{LogRegion}
 use Rattle.den_model.specs.declared.region.LogRegion.TheVariants.{Purge}
 use Rattle.den_model.specs.Entries.{LogEntry, rise_above}
 use Rattle.den_model.specs.Words.{FitsLogRegion}
-use Rattle.den_model.specs.Log.{Log, floor, changed, is_lawful}
+use Rattle.den_model.specs.Log.{floor, changed, is_lawful}
 use Rattle.den_store.specs.Held.{log_of}
 use Rattle.den_store.proofs.HeldLogs.{append_rises, replace_rises}
 use Rattle.den_store.proofs.held_log.HeldLog.settle.Goals as goal
