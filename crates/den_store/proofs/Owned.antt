@@ -4,7 +4,7 @@ use Rattle.den_disk.specs.declared.place.Family.{Family}
 use Rattle.den_disk.specs.declared.place.Family.TheVariants.{Log as log_family, Meta as meta_family}
 use Rattle.den_disk.specs.declared.place.Place.{Place}
 use Rattle.den_disk.specs.Files.{Files}
-use Rattle.den_disk.specs.Families.{OldOrNew, SparesImages}
+use Rattle.den_disk.specs.Families.{OldOrNew, SparesImages, NoNewImages}
 use Rattle.den_model.specs.declared.log_id.HardState.{HardState}
 use Rattle.den_model.specs.Spelling.{hard_state_word, log_region_word}
 use Rattle.den_model.specs.Words.{FitsHardState, FitsLogRegion}
@@ -28,6 +28,12 @@ unmoved_own holds images t old new gives = record { each = λ u files low high i
 
 pub unmoved_others : (own : Family) (images : ℕ → Files → Type 0) (t : ℕ) → SparesImages own images images t t
 unmoved_others own images t = record { each = λ u files low high i. (files, subst (λ k. images k files) (same_moment t u low high) i, λ q ne. refl) }
+
+-- ---- a call that gets no new image
+
+pub settled_own : {X : Type 0} (holds : Files → Option X) (before images : ℕ → Files → Type 0) (from to : ℕ) (x : X) → ((files : Files) → before from files → holds files ≡ Some x)
+    → NoNewImages before images from to → OldOrNew holds images from to x x
+settled_own holds before images from to x gives n = record { each = λ t files low high i. inl (gives files (n.each t files low high i)) }
 
 -- ---- a call that adds a region
 

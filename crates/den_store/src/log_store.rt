@@ -159,6 +159,17 @@ impl<D: Disk> LogStore<D> for FileLogStore {
         self.change(disk, LogRegion::Reset)
     }
 
+    fn flush(&mut self, disk: &mut D) -> Result<(), Error> {
+        match self.gate.flush(disk) {
+            Ok(()) => Ok(()),
+            Err(error) => Err(refusal(Family::Log, error)),
+        }
+    }
+
+    fn close(mut self, disk: &mut D) -> Result<(), Error> {
+        self.flush(disk)
+    }
+
     fn is_failed(&self) -> bool {
         self.gate.is_failed()
     }

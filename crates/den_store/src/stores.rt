@@ -1,9 +1,9 @@
 //! What a log store and a store of the hard state are.
-ghost use Rattle.std.specs.Prelude.{◌≡◌, ◌≤◌, ◌<◌, ◌↔◌, ◌+◌, ℕ, true, false, IsTrue, Option, Some, IfSome, OnOk, IfOk, IfErr, length};
+ghost use Rattle.std.specs.Prelude.{◌≡◌, ◌≤◌, ◌<◌, ◌↔◌, ◌+◌, ℕ, true, false, IsTrue, List, [], Option, Some, IfSome, OnOk, IfOk, IfErr, length};
 ghost use Rattle.den_codec.specs.Full.{IsHeavy};
 ghost use Rattle.den_model.specs.Sizes.{entries_size, store_rise};
 ghost use Rattle.den_model.specs.Spelling.{hard_state_word};
-ghost use Rattle.den_codec.specs.declared.error.Error.TheVariants.{OutOfMemory};
+ghost use Rattle.den_codec.specs.declared.error.Error.TheVariants.{OutOfMemory, StorageIoError};
 ghost use Rattle.den_disk.specs.declared.place.Family.TheVariants.{Log as log_family, Meta as meta_family};
 ghost use Rattle.den_disk.specs.Files.{Files, Content, IsImage};
 ghost use Rattle.den_disk.specs.Goes.{Rose, DiskGoesOn};
@@ -142,6 +142,33 @@ pub trait LogStore<D: Disk>: Drop {
         ensures unmoved { IfErr result (λ e. e ≡ OutOfMemory → IsTrue (D.kind disk.old).tells → rests self.new (D.content disk.new)) }
         ensures failed { IfErr result (λ e. IsOfDisk e → ready self.new → ⊥) };
 
+    /// Puts all files on the disk. It takes no memory.
+    fn flush(&mut self, disk: &mut D) -> Result<(), Error>
+        requires ready { ready self.old }
+        requires rests { IsTrue (D.kind disk.old).tells → rests self.old (D.content disk.old) }
+        ensures disk { DiskGoesOn D.kind D.moment D.images D.faults disk.old disk.new }
+        ensures own { IsTrue (D.kind disk.old).tells → OldOrNew holds (D.images disk.new) (D.moment disk.old) (D.moment disk.new) (log self.old) (log self.old) }
+        ensures others { IsTrue (D.kind disk.old).tells → SparesImages log_family (D.images disk.old) (D.images disk.new) (D.moment disk.old) (D.moment disk.new) }
+        ensures spares { IsTrue (D.kind disk.old).tells → SparesOthers log_family (D.content disk.old) (D.content disk.new) }
+        ensures flushed { IsTrue (D.kind disk.old).tells → OnOk result ((D.content disk.new).pending ≡ []) }
+        ensures same { log self.new ≡ log self.old }
+        ensures weight { weight self.new ≡ weight self.old }
+        ensures ready { OnOk result (ready self.new) }
+        ensures rests { OnOk result (IsTrue (D.kind disk.old).tells → rests self.new (D.content disk.new)) }
+        ensures refused { IfErr result (λ e. (e ≡ StorageIoError) × Rose (D.faults disk.old) (D.faults disk.new)) }
+        ensures failed { IfErr result (λ e. ready self.new → ⊥) };
+
+    /// The last call: a flush.
+    fn close(self, disk: &mut D) -> Result<(), Error>
+        requires ready { ready self }
+        requires rests { IsTrue (D.kind disk.old).tells → rests self (D.content disk.old) }
+        ensures disk { DiskGoesOn D.kind D.moment D.images D.faults disk.old disk.new }
+        ensures own { IsTrue (D.kind disk.old).tells → OldOrNew holds (D.images disk.new) (D.moment disk.old) (D.moment disk.new) (log self) (log self) }
+        ensures others { IsTrue (D.kind disk.old).tells → SparesImages log_family (D.images disk.old) (D.images disk.new) (D.moment disk.old) (D.moment disk.new) }
+        ensures spares { IsTrue (D.kind disk.old).tells → SparesOthers log_family (D.content disk.old) (D.content disk.new) }
+        ensures flushed { IsTrue (D.kind disk.old).tells → OnOk result ((D.content disk.new).pending ≡ []) }
+        ensures refused { IfErr result (λ e. (e ≡ StorageIoError) × Rose (D.faults disk.old) (D.faults disk.new)) };
+
     /// Whether a refusal of the disk left it of no more use. It is opened anew then.
     fn is_failed(&self) -> bool
         ensures { (result ≡ false) ↔ ready self.now };
@@ -219,6 +246,22 @@ pub trait MetaStore<D: Disk>: Drop {
         // Want of memory changes nothing. What the disk refused is of no more use.
         ensures kept { IfErr result (λ e. e ≡ OutOfMemory → (disk.new ≡ disk.old) × (self.new ≡ self.old)) }
         ensures failed { IfErr result (λ e. IsOfDisk e → ready self.new → ⊥) };
+
+    /// Puts all files on the disk. It takes no memory.
+    fn flush(&mut self, disk: &mut D) -> Result<(), Error>
+        requires ready { ready self.old }
+        requires rests { IsTrue (D.kind disk.old).tells → rests self.old (D.content disk.old) }
+        ensures disk { DiskGoesOn D.kind D.moment D.images D.faults disk.old disk.new }
+        ensures own { IsTrue (D.kind disk.old).tells → OldOrNew holds (D.images disk.new) (D.moment disk.old) (D.moment disk.new) (hard_state self.old) (hard_state self.old) }
+        ensures others { IsTrue (D.kind disk.old).tells → SparesImages meta_family (D.images disk.old) (D.images disk.new) (D.moment disk.old) (D.moment disk.new) }
+        ensures spares { IsTrue (D.kind disk.old).tells → SparesOthers meta_family (D.content disk.old) (D.content disk.new) }
+        ensures flushed { IsTrue (D.kind disk.old).tells → OnOk result ((D.content disk.new).pending ≡ []) }
+        ensures same { hard_state self.new ≡ hard_state self.old }
+        ensures weight { weight self.new ≡ weight self.old }
+        ensures ready { OnOk result (ready self.new) }
+        ensures rests { OnOk result (IsTrue (D.kind disk.old).tells → rests self.new (D.content disk.new)) }
+        ensures refused { IfErr result (λ e. (e ≡ StorageIoError) × Rose (D.faults disk.old) (D.faults disk.new)) }
+        ensures failed { IfErr result (λ e. ready self.new → ⊥) };
 
     /// Whether a refusal of the disk left it of no more use. It is opened anew then.
     fn is_failed(&self) -> bool
