@@ -1,4 +1,5 @@
 pub mod Causes
+pub mod Engine
 pub mod FileLog
 pub mod FileMeta
 pub mod Folding
