@@ -144,14 +144,15 @@ impl HeldLog {
         requires room { vec_len self.old.entries + vec_len entries ≤ vec_capacity self.old.entries }
         ensures { log_of self.new ≡ replaced (log_of self.old) from entries.items }
     {
-        let kept = count_below(self.entries.as_slice(), from);
-        self.entries.truncate(kept);
+        self.truncate(from);
         let appended = self.entries.append(&mut entries);
         prove!(appended.is_ok());
     }
 
     fn truncate(&mut self, from: u64)
-        ensures { log_of self.new ≡ changed (log_of self.old) (Truncate from) }
+        ensures log { log_of self.new ≡ changed (log_of self.old) (Truncate from) }
+        ensures fewer { vec_len self.new.entries ≤ vec_len self.old.entries }
+        ensures room { vec_capacity self.new.entries ≡ vec_capacity self.old.entries }
     {
         let kept = count_below(self.entries.as_slice(), from);
         self.entries.truncate(kept);
