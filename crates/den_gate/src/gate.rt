@@ -152,6 +152,24 @@ impl GateFile {
         Ok(())
     }
 
+    /// Puts all files on the disk. The list stays. It takes no memory.
+    pub fn flush<D: Disk>(&mut self, disk: &mut D) -> Result<(), GateError>
+        requires ready { self.old.failed ≡ false }
+        ensures disk { DiskGoesOn D.kind D.moment D.images D.faults disk.old disk.new }
+        ensures flushed { IsTrue (D.kind disk.old).tells → OnOk result ((D.content disk.new).pending ≡ []) }
+        ensures spares { IsTrue (D.kind disk.old).tells → SparesAll (D.content disk.old) (D.content disk.new) }
+        ensures images { IsTrue (D.kind disk.old).tells → NoNewImages (D.images disk.old) (D.images disk.new) (D.moment disk.old) (D.moment disk.new) }
+        ensures slot { self.new.slot ≡ self.old.slot }
+        ensures end { self.new.end ≡ self.old.end }
+        ensures ready { OnOk result (self.new.failed ≡ false) }
+        ensures failed { IsErr result → self.new.failed ≡ true }
+        ensures refused { IfErr result (Because ⊥ (Rose (D.faults disk.old) (D.faults disk.new)) (λ needed limit. ⊥) (λ part offset. ⊥)) }
+    {
+        let synced = disk.sync();
+        self.failed = synced.is_err();
+        Ok(synced?)
+    }
+
     /// Whether a call that changes it was refused. It is loaded anew then.
     pub fn is_failed(&self) -> bool
         ensures { result ≡ self.now.failed }

@@ -15,7 +15,7 @@ use Rattle.den_model.specs.Reading.{log_region_in}
 use Rattle.den_model.specs.Words.{IsBytes}
 use Rattle.den_model.specs.Spelling.{u64_word, entry_word, log_region_word}
 use Rattle.den_model.specs.Regions.{open_regions, placed}
-use Rattle.den_model.specs.Sizes.{entries_size, regions_size, found_size, family_size}
+use Rattle.den_model.specs.Sizes.{entries_size, regions_size, found_size, family_size, store_rise}
 use Rattle.den_model.proofs.Numbers.{length_u64_word}
 use Rattle.den_model.proofs.Spells.{word_iff}
 use Rattle.den_model.proofs.RegionSpells.{spells_log_region}
@@ -26,6 +26,7 @@ use Rattle.den_gate.specs.Slot.{room_for}
 use Rattle.den_codec.specs.Full.{IsHeavy}
 use Rattle.den_store.specs.declared.family.Loaded.{Loaded}
 use Rattle.den_store.specs.Folding.{end_from}
+use Rattle.den_store.specs.Lookup.{entries_of}
 use Rattle.den_store.specs.Opening.{IsLoaded}
 use Rattle.den_store.specs.Refused.{refusal}
 use Rattle.den_store.proofs.Opens.{loaded_regions, end_is}
@@ -66,6 +67,15 @@ changed_size l (Purge index term) = elim (cases_Bool (nat_lt (floor l) index)) [
 changed_size l (Replace r) =
     omega (arith, replaced_size l r.from r.entries, length-append (u64_word r.from) (u64_word (length r.entries) ++ flat_map entry_word r.entries), length-append (u64_word (length r.entries)) (flat_map entry_word r.entries), words_size r.entries)
 changed_size l Reset = omega arith
+
+-- a region is no larger than what a store that is handed its entries may write
+pub word_size : (r : LogRegion) → 9 + length (log_region_word r) ≤ store_rise (entries_size (entries_of r))
+word_size (Append es) = omega (arith, append_size es)
+word_size (Truncate from) = omega (arith, length_u64_word from)
+word_size (Purge index term) = omega (arith, length-append (u64_word index) (u64_word term), length_u64_word index, length_u64_word term)
+word_size (Replace r) =
+    omega (arith, length-append (u64_word r.from) (u64_word (length r.entries) ++ flat_map entry_word r.entries), length-append (u64_word (length r.entries)) (flat_map entry_word r.entries), words_size r.entries, length_u64_word r.from, length_u64_word (length r.entries))
+word_size Reset = omega arith
 
 pub region_size : (l : Log) (p : List ℕ) (r : LogRegion) → IsBytes p → log_region_in p ≡ Some r → entries_size (changed l r).entries ≤ entries_size l.entries + length p
 unfolding log_region_in

@@ -81,6 +81,13 @@ impl<D: Disk> MetaStore<D> for FileMetaStore {
         }
     }
 
+    fn flush(&mut self, disk: &mut D) -> Result<(), Error> {
+        match self.gate.flush(disk) {
+            Ok(()) => Ok(()),
+            Err(error) => Err(refusal(Family::Meta, error)),
+        }
+    }
+
     fn is_failed(&self) -> bool {
         self.gate.is_failed()
     }
