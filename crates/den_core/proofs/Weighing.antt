@@ -4,7 +4,7 @@ use Rattle.std.specs.Prelude.{IfSome}
 use Rattle.std.specs.Result.{IsErrAnd}
 use Rattle.den_codec.specs.Full.{IsHeavy}
 use Rattle.den_codec.specs.declared.error.Error.{Error}
-use Rattle.den_codec.specs.declared.error.Error.TheVariants.{OutOfMemory, StorageIoError, DiskFull, LinkFault, DataCorruption, FeatureNotEnabled, ProposeFailed, UnorderedChunk, Config, NotEmpty}
+use Rattle.den_codec.specs.declared.error.Error.TheVariants.{OutOfMemory, StorageIoError, DiskFull, LinkFault, DataCorruption, FeatureNotEnabled, ProposeFailed, UnorderedChunk, Config, StateMachineError}
 use Rattle.den_model.specs.declared.command.Command.{Command}
 use Rattle.den_model.specs.declared.command.WriteOperation.{WriteOperation}
 use Rattle.den_model.specs.declared.command.WriteOperation.TheVariants as operation
@@ -38,7 +38,7 @@ heavier most more weight above FeatureNotEnabled same le heavy = tt
 heavier most more weight above ProposeFailed same le heavy = tt
 heavier most more weight above (UnorderedChunk index) same le heavy = tt
 heavier most more weight above (Config place) same le heavy = tt
-heavier most more weight above NotEmpty same le heavy = tt
+heavier most more weight above StateMachineError same le heavy = tt
 
 -- at the exit of a call that answers its callee's refusal
 pub heavier_out : {T : Type 0} (r : Result T Error) (e : Error) (most more : ℕ) (weight above : ℕ) → IsErrAnd r (λ y. y ≡ e) → more ≡ most → weight ≤ above → IsHeavy more weight e → IfErr r (IsHeavy most above)

@@ -21,7 +21,7 @@ module _ (disk_rose link_rose told : Type 0) (most bytes : ℕ) (refusal : Optio
   error_status error.ProposeFailed full h = record { known = refl; storage = λ e. absurd (cc e); link = λ e. absurd (cc e); disk = λ e. absurd (cc e); corrupt = λ e. absurd (cc e); lease = λ e. absurd (cc e); exhausted = λ e t. h t }
   error_status (error.UnorderedChunk index) full h = absurd h
   error_status (error.Config place) full h = absurd h
-  error_status error.NotEmpty full h = absurd h
+  error_status error.StateMachineError full h = absurd h
 
   pub has_status : (r : Option (Result (Unit {0}) Error)) → (r ≡ None → ⊥) → (told → IfSome r (λ a. IfErr a (IsFullOf most bytes))) → IfSome r (λ a. IfErr a (IsRunRefusal disk_rose link_rose most told refusal))
       → H (status_of r)
@@ -41,7 +41,7 @@ module _ (disk_rose link_rose told : Type 0) (most bytes : ℕ) (refusal : Optio
   names_error error.ProposeFailed h = (0, 0, (λ t is. absurd (cc is)), refl)
   names_error (error.UnorderedChunk index) h = absurd h
   names_error (error.Config place) h = absurd h
-  names_error error.NotEmpty h = absurd h
+  names_error error.StateMachineError h = absurd h
 
   names : (r : Option (Result (Unit {0}) Error)) → IfSome r (λ a. IfErr a (IsRunRefusal disk_rose link_rose most told refusal)) → (place : ℕ) × (offset : ℕ)
       × (told → status_of r ≡ 8 → refusal ≡ Some (error.DataCorruption place offset)) × (line_of r ≡ status_line (status_of r) place offset)
@@ -69,7 +69,7 @@ error_not_0 error.FeatureNotEnabled is = cc is
 error_not_0 error.ProposeFailed is = cc is
 error_not_0 (error.UnorderedChunk index) is = cc is
 error_not_0 (error.Config place) is = cc is
-error_not_0 error.NotEmpty is = cc is
+error_not_0 error.StateMachineError is = cc is
 
 error_not_2 : (e : Error) → status_of_error e ≡ 2 → ⊥
 error_not_2 error.OutOfMemory is = cc is
@@ -81,7 +81,7 @@ error_not_2 error.FeatureNotEnabled is = cc is
 error_not_2 error.ProposeFailed is = cc is
 error_not_2 (error.UnorderedChunk index) is = cc is
 error_not_2 (error.Config place) is = cc is
-error_not_2 error.NotEmpty is = cc is
+error_not_2 error.StateMachineError is = cc is
 
 pub ok_at_0 : (r : Option (Result (Unit {0}) Error)) → status_of r ≡ 0 → r ≡ Some (Ok (record {}))
 ok_at_0 None is = absurd (cc is)

@@ -130,7 +130,10 @@ fn refused_files(rt: HostRuntime) -> Result<(), Fail> {
             family,
             part: Part::A,
         };
-        assert!(rt; is_refused(alloc, place, bytes, status, line)?, "status {status}");
+        assert!(rt;
+            is_refused(alloc, place, bytes, status, line)?,
+            "status {status}"
+        );
     }
     Ok(())
 }

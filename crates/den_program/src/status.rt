@@ -24,7 +24,7 @@ fn status_of_error(error: Error) -> u8
         Error::DataCorruption { .. } => 8,
         Error::FeatureNotEnabled => 9,
         Error::ProposeFailed => 10,
-        Error::UnorderedChunk { .. } | Error::Config(_) | Error::NotEmpty => 1,
+        Error::UnorderedChunk { .. } | Error::Config(_) | Error::StateMachineError => 1,
     }
 }
 
@@ -76,7 +76,7 @@ fn fixed_line(error: Error) -> &'static str
         | Error::DataCorruption { .. }
         | Error::UnorderedChunk { .. }
         | Error::Config(_)
-        | Error::NotEmpty => "den_server: out of memory\n",
+        | Error::StateMachineError => "den_server: out of memory\n",
     }
 }
 

@@ -30,7 +30,7 @@ opening_ended disk_rose link_rose told most refusal error.FeatureNotEnabled h = 
 opening_ended disk_rose link_rose told most refusal error.ProposeFailed h = h
 opening_ended disk_rose link_rose told most refusal (error.UnorderedChunk index) h = absurd h
 opening_ended disk_rose link_rose told most refusal (error.Config place) h = absurd h
-opening_ended disk_rose link_rose told most refusal error.NotEmpty h = absurd h
+opening_ended disk_rose link_rose told most refusal error.StateMachineError h = absurd h
 
 pub serving_ended : (disk_rose disk_rose' link_rose told : Type 0) (most : ℕ) (refusal : Option Error) (e : Error) → (disk_rose → disk_rose') → (told → refusal ≡ None)
     → IsServeRefusal disk_rose link_rose most e → IsRunRefusal disk_rose' link_rose most told refusal e
@@ -43,7 +43,7 @@ serving_ended disk_rose disk_rose' link_rose told most refusal error.FeatureNotE
 serving_ended disk_rose disk_rose' link_rose told most refusal error.ProposeFailed grow none h = absurd h
 serving_ended disk_rose disk_rose' link_rose told most refusal (error.UnorderedChunk index) grow none h = absurd h
 serving_ended disk_rose disk_rose' link_rose told most refusal (error.Config place) grow none h = absurd h
-serving_ended disk_rose disk_rose' link_rose told most refusal error.NotEmpty grow none h = absurd h
+serving_ended disk_rose disk_rose' link_rose told most refusal error.StateMachineError grow none h = absurd h
 
 some_is : (o : Option Error) (d e : Error) → o ≡ Some d → o ≡ Some e → d ≡ e
 some_is o d e p q = cc (p, q)
@@ -63,7 +63,7 @@ away disk_rose told most refusal e (error.DiskFull needed limit) t is h = absurd
 away disk_rose told most refusal e error.LinkFault t is h = absurd h
 away disk_rose told most refusal e (error.UnorderedChunk index) t is h = absurd h
 away disk_rose told most refusal e (error.Config place) t is h = absurd h
-away disk_rose told most refusal e error.NotEmpty t is h = absurd h
+away disk_rose told most refusal e error.StateMachineError t is h = absurd h
 
 pub refused_not_read : (refusal : Option Error) (e : Error) → refusal ≡ None → refusal ≡ Some e → ⊥
 refused_not_read = none_is
@@ -86,7 +86,7 @@ full_serving most weight bytes taken error.FeatureNotEnabled le h = h
 full_serving most weight bytes taken error.ProposeFailed le h = h
 full_serving most weight bytes taken (error.UnorderedChunk index) le h = h
 full_serving most weight bytes taken (error.Config place) le h = h
-full_serving most weight bytes taken error.NotEmpty le h = h
+full_serving most weight bytes taken error.StateMachineError le h = h
 
 pub full_opening : (most bytes taken : ℕ) (e : Error) → IsHeavy most (opened_weight bytes) e → IsFullOf most (bytes + taken) e
 full_opening most bytes taken (error.DiskFull needed limit) h = much_opened most bytes taken h
@@ -98,7 +98,7 @@ full_opening most bytes taken error.FeatureNotEnabled h = h
 full_opening most bytes taken error.ProposeFailed h = h
 full_opening most bytes taken (error.UnorderedChunk index) h = h
 full_opening most bytes taken (error.Config place) h = h
-full_opening most bytes taken error.NotEmpty h = h
+full_opening most bytes taken error.StateMachineError h = h
 
 -- ---- nothing stood in the way
 
@@ -116,7 +116,7 @@ completed_err disk_rose link_rose told most bytes taken left refusal (error.Disk
 completed_err disk_rose link_rose told most bytes taken left refusal error.LinkFault t none disk link le small full h = absurd (link h)
 completed_err disk_rose link_rose told most bytes taken left refusal (error.UnorderedChunk index) t none disk link le small full h = absurd h
 completed_err disk_rose link_rose told most bytes taken left refusal (error.Config place) t none disk link le small full h = absurd h
-completed_err disk_rose link_rose told most bytes taken left refusal error.NotEmpty t none disk link le small full h = absurd h
+completed_err disk_rose link_rose told most bytes taken left refusal error.StateMachineError t none disk link le small full h = absurd h
 
 pub completed : (disk_rose link_rose told : Type 0) (most bytes taken left : ℕ) (refusal : Option Error) (r : Result (Unit {0}) Error) → told → refusal ≡ None → (disk_rose → ⊥) → (link_rose → ⊥)
     → taken ≤ left → (IsMuch most (bytes + left) → ⊥) → IfErr r (IsFullOf most (bytes + taken)) → IfErr r (IsRunRefusal disk_rose link_rose most told refusal)

@@ -79,7 +79,7 @@ unread_refused rose rose' told refusal corrupt error.FeatureNotEnabled grow soun
 unread_refused rose rose' told refusal corrupt error.ProposeFailed grow sound h = absurd h
 unread_refused rose rose' told refusal corrupt (error.UnorderedChunk index) grow sound h = absurd h
 unread_refused rose rose' told refusal corrupt (error.Config place) grow sound h = absurd h
-unread_refused rose rose' told refusal corrupt error.NotEmpty grow sound h = absurd h
+unread_refused rose rose' told refusal corrupt error.StateMachineError grow sound h = absurd h
 
 pub state_refused : (rose rose' told : Type 0) (refusal : Option Error) (tells : Bool) (files : Files) (e : Error) → (rose → rose')
     → ((place offset : ℕ) → (IsTrue tells → (place ≡ place_number (slot_of family.State files)) × (map_in files ≡ Err offset)) → told → refusal ≡ Some (error.DataCorruption place offset))
@@ -93,7 +93,7 @@ state_refused rose rose' told refusal tells files error.FeatureNotEnabled grow s
 state_refused rose rose' told refusal tells files error.ProposeFailed grow sound h = absurd h
 state_refused rose rose' told refusal tells files (error.UnorderedChunk index) grow sound h = absurd h
 state_refused rose rose' told refusal tells files (error.Config place) grow sound h = absurd h
-state_refused rose rose' told refusal tells files error.NotEmpty grow sound h = absurd h
+state_refused rose rose' told refusal tells files error.StateMachineError grow sound h = absurd h
 
 pub folder_refused : (rose told : Type 0) (most : ℕ) (refusal : Option Error) (e : Error) → IsUnreadFolder rose told refusal e → IsOpeningRefusal rose most told refusal e
 folder_refused rose told most refusal error.OutOfMemory h = h
@@ -105,7 +105,7 @@ folder_refused rose told most refusal error.FeatureNotEnabled h = absurd h
 folder_refused rose told most refusal error.ProposeFailed h = absurd h
 folder_refused rose told most refusal (error.UnorderedChunk index) h = absurd h
 folder_refused rose told most refusal (error.Config place) h = absurd h
-folder_refused rose told most refusal error.NotEmpty h = absurd h
+folder_refused rose told most refusal error.StateMachineError h = absurd h
 
 -- reading a folder never finds the disk full
 pub folder_light : (rose told : Type 0) (refusal : Option Error) (most weight : ℕ) (e : Error) → IsUnreadFolder rose told refusal e → IsHeavy most weight e
@@ -118,7 +118,7 @@ folder_light rose told refusal most weight error.FeatureNotEnabled h = record {}
 folder_light rose told refusal most weight error.ProposeFailed h = record {}
 folder_light rose told refusal most weight (error.UnorderedChunk index) h = record {}
 folder_light rose told refusal most weight (error.Config place) h = record {}
-folder_light rose told refusal most weight error.NotEmpty h = record {}
+folder_light rose told refusal most weight error.StateMachineError h = record {}
 
 pub heavier : (most weight more : ℕ) (e : Error) → weight ≤ more → IsHeavy most weight e → IsHeavy most more e
 heavier most weight more (error.DiskFull needed limit) le h = omega (arith, h)
@@ -130,7 +130,7 @@ heavier most weight more error.FeatureNotEnabled le h = h
 heavier most weight more error.ProposeFailed le h = h
 heavier most weight more (error.UnorderedChunk index) le h = h
 heavier most weight more (error.Config place) le h = h
-heavier most weight more error.NotEmpty le h = h
+heavier most weight more error.StateMachineError le h = h
 
 disk_refused : (rose rose' told : Type 0) (most : ℕ) (refusal : Option Error) (e : Error) → (rose → rose') → (told → refusal ≡ None) → IsRefusal rose most e → IsOpeningRefusal rose' most told refusal e
 disk_refused rose rose' told most refusal error.OutOfMemory grow none h = h
@@ -142,7 +142,7 @@ disk_refused rose rose' told most refusal error.FeatureNotEnabled grow none h = 
 disk_refused rose rose' told most refusal error.ProposeFailed grow none h = absurd h
 disk_refused rose rose' told most refusal (error.UnorderedChunk index) grow none h = absurd h
 disk_refused rose rose' told most refusal (error.Config place) grow none h = absurd h
-disk_refused rose rose' told most refusal error.NotEmpty grow none h = absurd h
+disk_refused rose rose' told most refusal error.StateMachineError grow none h = absurd h
 
 some_is : (e d : Error) → Some d ≡ Some e → d ≡ e
 some_is e d p = cc p

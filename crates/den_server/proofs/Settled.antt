@@ -46,7 +46,7 @@ settled_or_same A error.FeatureNotEnabled old new h = inr h
 settled_or_same A error.ProposeFailed old new h = inr h
 settled_or_same A (error.UnorderedChunk index) old new h = inr h
 settled_or_same A (error.Config place) old new h = inr h
-settled_or_same A error.NotEmpty old new h = inr h
+settled_or_same A error.StateMachineError old new h = inr h
 
 -- no sync succeeded
 pub never_settles : (images : ℕ → Files → Type 0) (from to : ℕ) (ok same : Type 0) (reading : Files) → from ≤ to → (ok → ⊥) → same → Settles images from to ok same reading

@@ -57,7 +57,8 @@ const STATE_OF_PUT: &[u8] =
 const LOG_OF_SECOND: &[u8] =
     b"\x01\0\0\0\0\0\0\0\x22\x01\0\0\0\0\0\0\0\x01\0\0\0\0\0\0\0\x03\0\0\0\0\0\0\0\x02\0\0\0\0\0\0\x03\xe8\0";
 
-const META_OF_SECOND: &[u8] = b"\x01\0\0\0\0\0\0\0\x15\0\0\0\0\0\0\0\x02\x01\0\0\0\x01\0\0\0\0\0\0\0\x02";
+const META_OF_SECOND: &[u8] =
+    b"\x01\0\0\0\0\0\0\0\x15\0\0\0\0\0\0\0\x02\x01\0\0\0\x01\0\0\0\0\0\0\0\x02";
 
 const STATE_OF_SECOND: &[u8] =
     b"\x01\0\0\0\0\0\0\0\x32\x03\0\0\0\0\0\0\0\x01\0\0\0\0\0\0\0\x03\0\0\0\0\0\0\0\x02\0\0\0\0\0\0\0\0\0\0\0\0\0\0\0\0\0\0\0\0\0\0\0\0\0";
@@ -249,9 +250,23 @@ fn empty_value_reopened(rt: HostRuntime) -> Result<(), Fail> {
     let mut link = link_of(alloc, &[READ])?;
     assert_eq!(rt; run(alloc, &mut disk, &mut link)?, Ok(()));
     assert_eq!(rt; link.sent(), EMPTY_PAIR);
-    assert!(rt; holds(alloc, &disk, Family::Log, &[LOG_OF_NOOP, LOG_OF_EMPTY, LOG_OF_SECOND])?);
+    assert!(rt;
+        holds(
+            alloc,
+            &disk,
+            Family::Log,
+            &[LOG_OF_NOOP, LOG_OF_EMPTY, LOG_OF_SECOND]
+        )?
+    );
     assert!(rt; holds(alloc, &disk, Family::Meta, &[META, META_OF_SECOND])?);
-    assert!(rt; holds(alloc, &disk, Family::State, &[STATE_OF_NOOP, STATE_OF_EMPTY, STATE_OF_SECOND])?);
+    assert!(rt;
+        holds(
+            alloc,
+            &disk,
+            Family::State,
+            &[STATE_OF_NOOP, STATE_OF_EMPTY, STATE_OF_SECOND]
+        )?
+    );
     Ok(())
 }
 
@@ -259,7 +274,10 @@ fn empty_value_reopened(rt: HostRuntime) -> Result<(), Fail> {
 fn torn_gate_reopened(rt: HostRuntime) -> Result<(), Fail> {
     let alloc = rt.alloc();
     let mut disk = MemDisk::new(alloc);
-    assert_eq!(rt; run(alloc, &mut disk, &mut link_of(alloc, &[PUT, READ])?)?, Ok(()));
+    assert_eq!(rt;
+        run(alloc, &mut disk, &mut link_of(alloc, &[PUT, READ])?)?,
+        Ok(())
+    );
     let log = Place {
         family: Family::Log,
         part: Part::A,
@@ -269,9 +287,23 @@ fn torn_gate_reopened(rt: HostRuntime) -> Result<(), Fail> {
     assert_eq!(rt; run(alloc, &mut disk, &mut link)?, Ok(()));
     assert_eq!(rt; link.sent(), EMPTY);
     // The log begins anew, and what stood behind its first gate stays.
-    assert!(rt; holds(alloc, &disk, Family::Log, &[LOG_OF_SECOND, LOG_OF_CLOSED_PUT])?);
+    assert!(rt;
+        holds(
+            alloc,
+            &disk,
+            Family::Log,
+            &[LOG_OF_SECOND, LOG_OF_CLOSED_PUT]
+        )?
+    );
     assert!(rt; holds(alloc, &disk, Family::Meta, &[META, META_OF_SECOND])?);
-    assert!(rt; holds(alloc, &disk, Family::State, &[STATE_OF_NOOP, STATE_OF_PUT, STATE_OF_SECOND])?);
+    assert!(rt;
+        holds(
+            alloc,
+            &disk,
+            Family::State,
+            &[STATE_OF_NOOP, STATE_OF_PUT, STATE_OF_SECOND]
+        )?
+    );
     Ok(())
 }
 

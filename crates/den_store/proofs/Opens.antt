@@ -57,7 +57,7 @@ unread_weaker rose P Q error.FeatureNotEnabled weaker h = h
 unread_weaker rose P Q error.ProposeFailed weaker h = h
 unread_weaker rose P Q (error.UnorderedChunk index) weaker h = h
 unread_weaker rose P Q (error.Config place) weaker h = h
-unread_weaker rose P Q error.NotEmpty weaker h = h
+unread_weaker rose P Q error.StateMachineError weaker h = h
 
 -- a refusal that is handed on
 pub handed_on : {A E : Type 0} (P : E → Type 0) (x : E) (r : Result A E) → IsErrAnd r (λ e. e ≡ x) → P x → IfErr r P
