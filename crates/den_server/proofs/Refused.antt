@@ -17,6 +17,7 @@ use Rattle.den_model.specs.Image.{Corruption, recovered, of_family, or_corrupt, 
 use Rattle.den_state.specs.Chunk.{asks_lease, has_expiry}
 use Rattle.den_state.specs.Machine.{IsOpeningRefusal as IsStateRefusal}
 use Rattle.den_store.specs.Causes.{IsRefusal}
+use Rattle.den_store.specs.Engine.{IsFirstCorrupt}
 use Rattle.den_store.specs.Folding.{IsUnread}
 use Rattle.den_core.specs.Opening.{refusal_for, opening_refusal, is_exhausted, IsOpeningFailure}
 use Rattle.den_server.specs.Causes.{IsUnreadFolder, IsOpeningRefusal}
@@ -41,12 +42,22 @@ by_parts files a b c = refusal_of (lease_asked a c) (joint files a b c)
 refusal_is : (files : Files) → refusal_in files ≡ by_parts files (log_in files) (hard_state_held files) (map_in files)
 refusal_is files = ap (refusal_of (lease_asked (log_in files) (map_in files))) (recovered_is files)
 
-pub log_unread : (files : Files) (place offset : ℕ) → place ≡ place_number (slot_of family.Log files) → log_in files ≡ Err offset → refusal_in files ≡ Some (error.DataCorruption place offset)
+log_unread : (files : Files) (place offset : ℕ) → place ≡ place_number (slot_of family.Log files) → log_in files ≡ Err offset → refusal_in files ≡ Some (error.DataCorruption place offset)
 log_unread files place offset at bad = refusal_is files ∙ (λ i. by_parts files (bad i) (hard_state_held files) (map_in files)) ∙ ap (λ p. Some (error.DataCorruption p offset)) (sym at)
 
-pub meta_unread : (files : Files) (l : Log) (place offset : ℕ) → log_in files ≡ Ok l → place ≡ place_number (slot_of family.Meta files) → hard_state_held files ≡ Err offset
+meta_unread : (files : Files) (l : Log) (place offset : ℕ) → log_in files ≡ Ok l → place ≡ place_number (slot_of family.Meta files) → hard_state_held files ≡ Err offset
     → refusal_in files ≡ Some (error.DataCorruption place offset)
 meta_unread files l place offset log at bad = refusal_is files ∙ (λ i. by_parts files (log i) (bad i) (map_in files)) ∙ ap (λ p. Some (error.DataCorruption p offset)) (sym at)
+
+some_log : (r : Result Log ℕ) → IsOk r → (l : Log) × (r ≡ Ok l)
+some_log (Ok l) is = (l, refl)
+some_log (Err offset) is = absurd (cc is)
+
+pub storage_unread : (files : Files) (place offset : ℕ) → IsFirstCorrupt files place offset → refusal_in files ≡ Some (error.DataCorruption place offset)
+storage_unread files place offset h = ⊎_elim
+    (λ log. log_unread files place offset log.0 log.1)
+    (λ meta. let some = some_log (log_in files) meta.0 in meta_unread files some.0 place offset some.1 meta.1 meta.2)
+    h
 
 pub state_unread : (files : Files) (l : Log) (h : Option HardState) (place offset : ℕ) → log_in files ≡ Ok l → hard_state_held files ≡ Ok h
     → place ≡ place_number (slot_of family.State files) → map_in files ≡ Err offset → refusal_in files ≡ Some (error.DataCorruption place offset)

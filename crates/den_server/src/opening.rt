@@ -21,11 +21,11 @@ ghost use Rattle.den_server.specs.Causes.{IsOpeningRefusal, IsUnreadFolder};
 ghost use Rattle.den_server.specs.Opening.{refusal_in, AllReady, IsRead, IsUnwritten, Settles, SurvivesOpening, opened_weight};
 
 use crate::nodes::copy_nodes;
-use den_codec::{Error, RaftNodeConfig, Running, Setting};
+use den_codec::{Error, Label, RaftNodeConfig, Running, Setting};
 use den_core::{Engine, Stepper, recover};
 use den_disk::Disk;
 use den_state::FileStateMachine;
-use den_store::{FileLogStore, FileMetaStore};
+use den_store::{FileLogStore, FileMetaStore, FileStorageEngine, StorageEngine};
 use std::alloc::Global;
 
 /// An engine over the files of a folder.
@@ -54,7 +54,7 @@ struct Stores {
 }
 
 // Opens log, hard state and map, in this order. Nothing is written.
-fn open_stores<D: Disk>(alloc: Global, disk: &mut D) -> Result<Stores, Error>
+fn open_stores<D: Disk>(alloc: Global, disk: &mut D, data_dir: Label) -> Result<Stores, Error>
     ensures disk { DiskGoesOn D.kind D.moment D.images D.faults disk.old disk.new }
     ensures images { IsTrue (D.kind disk.old).tells → NoNewImages (D.images disk.old) (D.images disk.new) (D.moment disk.old) (D.moment disk.new) }
     ensures spares { IsTrue (D.kind disk.old).tells → SparesAll (D.content disk.old) (D.content disk.new) }
@@ -68,16 +68,15 @@ fn open_stores<D: Disk>(alloc: Global, disk: &mut D) -> Result<Stores, Error>
     ensures rests { IfOk result (λ s. IsTrue (D.kind disk.old).tells → AllRest (LogRests s.log (D.content disk.new)) (MetaRests s.meta (D.content disk.new)) (Rests s.state (D.content disk.new))) }
     ensures refused { IfErr result (IsUnreadFolder (Rose (D.faults disk.old) (D.faults disk.new)) (IsTrue (D.kind disk.old).tells) (refusal_in (D.content disk.old).reading)) }
 {
-    let log = match FileLogStore::new(alloc, disk) {
-        Ok(log) => log,
-        Err(error) => return Err(error),
-    };
-    let meta = match FileMetaStore::new(alloc, disk) {
-        Ok(meta) => meta,
+    let storage = match FileStorageEngine::new(alloc, data_dir, disk) {
+        Ok(storage) => storage,
         Err(error) => return Err(error),
     };
     match FileStateMachine::new(alloc, disk) {
-        Ok(state) => Ok(Stores { log, meta, state }),
+        Ok(state) => {
+            let (log, meta) = StorageEngine::<D>::split(storage);
+            Ok(Stores { log, meta, state })
+        }
         Err(error) => Err(error),
     }
 }
@@ -113,7 +112,11 @@ pub fn open_folder<D: Disk>(
         Ok(running) => running,
         Err(error) => return Err(error),
     };
-    let stores = match open_stores(alloc, disk) {
+    let data_dir = match Label::of(alloc, config.cluster.db_root_dir.as_str()) {
+        Ok(data_dir) => data_dir,
+        Err(_) => return Err(Error::OutOfMemory),
+    };
+    let stores = match open_stores(alloc, disk, data_dir) {
         Ok(stores) => stores,
         Err(error) => return Err(error),
     };
