@@ -51,6 +51,7 @@ pub trait LogStore<D: Disk>: Drop {
         ensures others { IsTrue (D.kind disk.old).tells → SparesImages log_family (D.images disk.old) (D.images disk.new) (D.moment disk.old) (D.moment disk.new) }
         ensures spares { IsTrue (D.kind disk.old).tells → SparesOthers log_family (D.content disk.old) (D.content disk.new) }
         ensures persisted { OnOk result (log self.new ≡ changed (log self.old) (Append entries.now)) }
+        ensures nothing { entries.now ≡ [] → disk.new ≡ disk.old }
         ensures weight { OnOk result (weight self.new ≤ weight self.old + store_rise (entries_size entries.now)) }
         ensures ready { OnOk result (ready self.new) }
         ensures rests { OnOk result (IsTrue (D.kind disk.old).tells → rests self.new (D.content disk.new)) }
@@ -71,7 +72,8 @@ pub trait LogStore<D: Disk>: Drop {
         ensures own { IsTrue (D.kind disk.old).tells → OldOrNew holds (D.images disk.new) (D.moment disk.old) (D.moment disk.new) (log self.old) (changed (log self.old) (Purge cutoff.index cutoff.term)) }
         ensures others { IsTrue (D.kind disk.old).tells → SparesImages log_family (D.images disk.old) (D.images disk.new) (D.moment disk.old) (D.moment disk.new) }
         ensures spares { IsTrue (D.kind disk.old).tells → SparesOthers log_family (D.content disk.old) (D.content disk.new) }
-        ensures purged { OnOk result (log self.new ≡ (changed (log self.old) (Purge cutoff.index cutoff.term))) }
+        ensures purged { OnOk result (log self.new ≡ changed (log self.old) (Purge cutoff.index cutoff.term)) }
+        ensures nothing { cutoff.index ≤ floor (log self.old) → disk.new ≡ disk.old }
         ensures weight { OnOk result (weight self.new ≤ weight self.old + store_rise 0) }
         ensures ready { OnOk result (ready self.new) }
         ensures rests { OnOk result (IsTrue (D.kind disk.old).tells → rests self.new (D.content disk.new)) }
@@ -89,7 +91,7 @@ pub trait LogStore<D: Disk>: Drop {
         ensures own { IsTrue (D.kind disk.old).tells → OldOrNew holds (D.images disk.new) (D.moment disk.old) (D.moment disk.new) (log self.old) (changed (log self.old) (Truncate from_index)) }
         ensures others { IsTrue (D.kind disk.old).tells → SparesImages log_family (D.images disk.old) (D.images disk.new) (D.moment disk.old) (D.moment disk.new) }
         ensures spares { IsTrue (D.kind disk.old).tells → SparesOthers log_family (D.content disk.old) (D.content disk.new) }
-        ensures truncated { OnOk result (log self.new ≡ (changed (log self.old) (Truncate from_index))) }
+        ensures truncated { OnOk result (log self.new ≡ changed (log self.old) (Truncate from_index)) }
         ensures weight { OnOk result (weight self.new ≤ weight self.old + store_rise 0) }
         ensures ready { OnOk result (ready self.new) }
         ensures rests { OnOk result (IsTrue (D.kind disk.old).tells → rests self.new (D.content disk.new)) }
@@ -114,7 +116,7 @@ pub trait LogStore<D: Disk>: Drop {
         ensures own { IsTrue (D.kind disk.old).tells → OldOrNew holds (D.images disk.new) (D.moment disk.old) (D.moment disk.new) (log self.old) (replaced (log self.old) from_index new_entries.now) }
         ensures others { IsTrue (D.kind disk.old).tells → SparesImages log_family (D.images disk.old) (D.images disk.new) (D.moment disk.old) (D.moment disk.new) }
         ensures spares { IsTrue (D.kind disk.old).tells → SparesOthers log_family (D.content disk.old) (D.content disk.new) }
-        ensures replaced { OnOk result (log self.new ≡ (replaced (log self.old) from_index new_entries.now)) }
+        ensures replaced { OnOk result (log self.new ≡ replaced (log self.old) from_index new_entries.now) }
         ensures weight { OnOk result (weight self.new ≤ weight self.old + store_rise (entries_size new_entries.now)) }
         ensures ready { OnOk result (ready self.new) }
         ensures rests { OnOk result (IsTrue (D.kind disk.old).tells → rests self.new (D.content disk.new)) }

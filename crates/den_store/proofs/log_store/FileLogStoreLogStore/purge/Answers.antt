@@ -21,3 +21,6 @@ returns-then-cutoff-floor-clause-purged g c =
     let l = log_of c.args.self.now.held in
     let under : c.args.cutoff.index ≤ floor l = omega (arith, c.floor.ensures, c.if-cutoff-floor.true) in
     not_purged l c.args.cutoff.index c.args.cutoff.term under
+
+pub returns-clause-nothing : goal.returns-clause-nothing
+returns-clause-nothing g c = λ under. absurd (omega (arith, c.floor.ensures, c.if-cutoff-floor.false, under))
