@@ -2,6 +2,9 @@
 """Tries the built server on real files, where no proof reaches: fifty kills in the midst of its writes, garbage, and disks
 that do not take a write. Says what it did, and ends with 1 where a put that was answered is lost or a status is another.
 
+A kill leaves what the operating system was handed, synced or not: it shows the order of writes and replies, and the opening
+of what stands there, and not that a sync was made.
+
     checks/real_files.py [PROGRAM]
 
 PROGRAM is the built server, without the word the one that `rt ci` leaves in crates/den_program/out.
@@ -15,10 +18,11 @@ import subprocess
 import sys
 import tempfile
 import threading
+import time
 
 TOP = os.path.dirname(os.path.dirname(os.path.abspath(__file__)))
 BUILT = os.path.join(TOP, "crates", "den_program", "out", "den_program")
-KILLS, FOLDERS, PUTS = 50, 5, 1000
+KILLS, FOLDERS, PUTS, LIMIT = 50, 5, 1000, 120
 WRITTEN = bytes.fromhex("0100000001" "01")
 NOBODY = 65534
 
@@ -80,7 +84,7 @@ def as_nobody():
 
 def run(program, folder, frames, before=as_nobody):
     """The status, the output and the line of a run to the end of these frames."""
-    ended = subprocess.run([program, folder], input=b"".join(frames), capture_output=True, preexec_fn=before, timeout=120)
+    ended = subprocess.run([program, folder], input=b"".join(frames), capture_output=True, preexec_fn=before, timeout=LIMIT)
     return ended.returncode, ended.stdout, ended.stderr
 
 
@@ -88,7 +92,10 @@ def values(program, folder, keys):
     status, out, line = run(program, folder, [read(key) for key in keys])
     if status != 0:
         fail(f"a folder is not opened again: status {status}, {line!r}")
-    return [value_in(body) for body in bodies(out)]
+    answers = bodies(out)
+    if len(answers) != len(keys):
+        fail(f"{len(keys)} reads were answered {len(answers)} times")
+    return [value_in(body) for body in answers]
 
 
 def killed(program, folder, frames, answers):
@@ -104,13 +111,17 @@ def killed(program, folder, frames, answers):
 
     feeder = threading.Thread(target=feed)
     feeder.start()
+    late = threading.Timer(LIMIT, server.kill)
+    late.start()
     out = b""
     while len(bodies(out)) < answers:
         piece = os.read(server.stdout.fileno(), 65536)
         if not piece:
-            fail("the server ended before it was killed")
+            fail("the server ended before it was killed, or did not answer in time")
         out += piece
+    time.sleep(0 if answers else random.random() / 50)
     server.send_signal(signal.SIGKILL)
+    late.cancel()
     out += server.stdout.read()
     feeder.join()
     server.wait()
@@ -132,13 +143,15 @@ def kills(program, room, draw):
         held = [None] * PUTS
         for kill in range(KILLS // FOLDERS):
             new = [b"%d.%d.%d" % (round_number, kill, n) for n in range(PUTS)]
-            count = killed(program, folder, [put(key, value) for key, value in zip(keys, new)], draw.randrange(1, 300))
+            # Every fifth is killed at once: in its opening, or before its first answer.
+            answers = 0 if kill % 5 == 4 else draw.randrange(1, 300)
+            count = killed(program, folder, [put(key, value) for key, value in zip(keys, new)], answers)
             answered += count
             for n, value in enumerate(values(program, folder, keys)):
                 if n < count and value != new[n]:
                     fail(f"put {n} of {count} that were answered is lost: {value!r} stands for {new[n]!r}")
-                if n >= count and value not in (held[n], new[n]):
-                    fail(f"put {n} was never made: {value!r}")
+                if n == count and value not in (held[n], new[n]) or n > count and value != held[n]:
+                    fail(f"put {n} was not made, behind {count} that were answered: {value!r}")
                 held[n] = value
     print(f"real files: {KILLS} kills in the midst of {PUTS} puts each, {answered} puts were answered and none is lost")
 

@@ -122,7 +122,8 @@ fn has_no_snapshot(disk: &MemDisk) -> bool {
 // Whether the files are those of the opening alone.
 fn holds_opening(alloc: Global, disk: &MemDisk) -> Result<bool, Fail> {
     Ok(
-        holds(alloc, disk, Family::Log, &[LOG_OF_NOOP])?
+        has_no_snapshot(disk)
+            && holds(alloc, disk, Family::Log, &[LOG_OF_NOOP])?
             && holds(alloc, disk, Family::Meta, &[META])?
             && holds(alloc, disk, Family::State, &[STATE_OF_NOOP])?,
     )
@@ -131,7 +132,8 @@ fn holds_opening(alloc: Global, disk: &MemDisk) -> Result<bool, Fail> {
 // Whether the files are those of the opening and the put.
 fn holds_put(alloc: Global, disk: &MemDisk) -> Result<bool, Fail> {
     Ok(
-        holds(alloc, disk, Family::Log, &[LOG_OF_NOOP, LOG_OF_PUT])?
+        has_no_snapshot(disk)
+            && holds(alloc, disk, Family::Log, &[LOG_OF_NOOP, LOG_OF_PUT])?
             && holds(alloc, disk, Family::Meta, &[META])?
             && holds(alloc, disk, Family::State, &[STATE_OF_NOOP, STATE_OF_PUT])?,
     )
