@@ -2,7 +2,8 @@
 ghost use Rattle.std.specs.Prelude.{◌≡◌, ◌↔◌, ◌++◌, ◌+◌, ◌-◌, ◌⊎◌, ℕ, List, Option, Some, None, Ok, Err, IsTrue, IfSome, IfOk, IfErr, length, map, string_bytes};
 ghost use Rattle.den_disk.specs.Goes.{Rose, IsPrefix, added, DiskGoesOn, LinkGoesOn, ClockGoesOn, SinkGoesOn};
 ghost use Rattle.den_disk.specs.declared.place.Family.TheVariants.{Snapshot as snapshot_family};
-ghost use Rattle.den_disk.specs.Families.{SameOf, NoNewImages};
+ghost use Rattle.den_core.specs.Spared.{SparesFamily};
+ghost use Rattle.den_disk.specs.Families.{NoNewImages};
 ghost use Rattle.den_codec.specs.declared.error.Error.{Error};
 ghost use Rattle.den_codec.specs.declared.error.Error.TheVariants.{OutOfMemory};
 ghost use Rattle.den_codec.specs.Standard.{IsStandard};
@@ -63,7 +64,7 @@ fn serve_words<D: Disk, L: Link, C: Clock>(
         → SurvivesOpening durable_in (D.images disk.old) (D.images disk.new) (D.moment disk.old) (D.moment disk.new) (result ≡ Some (Ok tt))
         (D.content disk.new ≡ D.content disk.old) (added (L.sent link.old) (L.sent link.new))
         (start kept) (plan_over (start kept) frame_limit (L.left link.old) (added (C.readings clock.old) (C.readings clock.new))) }
-    ensures snapshot { IsTrue (D.kind disk.old).tells → SameOf snapshot_family (D.content disk.old).reading (D.content disk.new).reading }
+    ensures snapshot { IsTrue (D.kind disk.old).tells → SparesFamily snapshot_family D.content D.moment D.images disk.old disk.new }
     ensures disk { DiskGoesOn D.kind D.moment D.images D.faults disk.old disk.new }
     ensures link { LinkGoesOn L.tells L.sent L.budget L.taken L.faults link.old link.new }
     ensures clock { ClockGoesOn C.tells C.readings clock.old clock.new }
@@ -131,7 +132,7 @@ pub fn serve_main<D: Disk, L: Link, C: Clock, S: Source, E: Sink>(
         → SurvivesOpening durable_in (D.images disk.old) (D.images disk.new) (D.moment disk.old) (D.moment disk.new) (result ≡ 0)
         (D.content disk.new ≡ D.content disk.old) (added (L.sent link.old) (L.sent link.new))
         (start kept) (plan_over (start kept) frame_limit (L.left link.old) (added (C.readings clock.old) (C.readings clock.new))) }
-    ensures snapshot { IsTrue (D.kind disk.old).tells → SameOf snapshot_family (D.content disk.old).reading (D.content disk.new).reading }
+    ensures snapshot { IsTrue (D.kind disk.old).tells → SparesFamily snapshot_family D.content D.moment D.images disk.old disk.new }
     ensures disk { DiskGoesOn D.kind D.moment D.images D.faults disk.old disk.new }
     ensures link { LinkGoesOn L.tells L.sent L.budget L.taken L.faults link.old link.new }
     ensures clock { ClockGoesOn C.tells C.readings clock.old clock.new }

@@ -10,6 +10,8 @@ use Rattle.den_codec.specs.declared.error.Error.TheVariants as error
 use Rattle.den_model.specs.Kv.{Durable, Kv}
 use Rattle.den_model.specs.Crash.{Survives}
 use Rattle.den_store.specs.Opening.{IsSettled}
+use Rattle.den_disk.specs.declared.place.Family.{Family}
+use Rattle.den_core.specs.Spared.{SparesFamily}
 use Rattle.den_server.specs.Opening.{Settles, SurvivesOpening}
 
 pub same_reading : (old new : Content) → SparesAll old new → new.reading ≡ old.reading
@@ -33,6 +35,14 @@ none_then old mid new from between to low high past one two = record {
       (λ early. one.each t files begun (omega arith) (past t files (omega arith) at))
       (λ late. one.each between files low (omega arith) (two.each t files late ended at))
       (cases_lt t between);
+}
+
+-- calls that only read spare each family's files
+pub spares_read : {D : Type 0} (family : Family) (content : D → Content) (moment : D → ℕ) (images : D → ℕ → Files → Type 0) (old new : D) → SparesAll (content old) (content new)
+    → NoNewImages (images old) (images new) (moment old) (moment new) → SparesFamily family content moment images old new
+spares_read family content moment images old new all none = record {
+  own = record { reading = λ q is. all.reading q; pending = λ q is k at. all.pending q k at };
+  images = λ t files begun ended at. (files, none.each t files begun ended at, λ q is. refl);
 }
 
 -- an opening that failed has synced, or left all as it was

@@ -4,7 +4,8 @@ ghost use Rattle.den_disk.specs.declared.place.Family.TheVariants.{Log as log_fa
 ghost use Rattle.den_disk.specs.Place.{place_number};
 ghost use Rattle.den_disk.specs.Goes.{Rose, DiskGoesOn};
 ghost use Rattle.den_disk.specs.declared.place.Family.TheVariants.{Snapshot as snapshot_family};
-ghost use Rattle.den_disk.specs.Families.{SameOf, NoNewImages, SparesAll};
+ghost use Rattle.den_core.specs.Spared.{SparesFamily};
+ghost use Rattle.den_disk.specs.Families.{NoNewImages, SparesAll};
 ghost use Rattle.den_model.specs.Entries.{LogEntry};
 ghost use Rattle.den_model.specs.Image.{durable_in, slot_of};
 ghost use Rattle.den_model.specs.Kv.{Durable};
@@ -43,6 +44,22 @@ fn running_of(alloc: Global, config: &RaftNodeConfig) -> Result<Running, Error>
         config.raft.watch.watcher_buffer_size,
     );
     Ok(Running::at_entry(alloc, setting, nodes, config.cluster.node_id))
+}
+
+// What an opening takes of a configuration.
+#[derive(Drop)]
+struct Prepared {
+    running: Running,
+    data_dir: Label,
+}
+
+fn prepare(alloc: Global, config: &RaftNodeConfig) -> Result<Prepared, Error>
+    ensures running { IfOk result (λ p. p.running ≡ running_of config.now) }
+    ensures refused { IfErr result (λ e. e ≡ OutOfMemory) }
+{
+    let running = running_of(alloc, config)?;
+    let data_dir = Label::of(alloc, config.cluster.db_root_dir.as_str())?;
+    Ok(Prepared { running, data_dir })
 }
 
 // Log, hard state and map, as the files of a folder gave them.
@@ -100,7 +117,7 @@ pub fn open_folder<D: Disk>(
         → ⟦<Engine<FileLogStore, FileMetaStore, FileStateMachine> as Stepper<D>>⟧.weight engine ≤ opened_weight (files_size (D.content disk.old).reading)) }
     ensures ready { IfOk result (λ engine. ⟦<Engine<FileLogStore, FileMetaStore, FileStateMachine> as Stepper<D>>⟧.ready engine) }
     ensures rests { IfOk result (λ engine. IsTrue (D.kind disk.old).tells → ⟦<Engine<FileLogStore, FileMetaStore, FileStateMachine> as Stepper<D>>⟧.rests engine (D.content disk.new)) }
-    ensures snapshot { IsTrue (D.kind disk.old).tells → SameOf snapshot_family (D.content disk.old).reading (D.content disk.new).reading }
+    ensures snapshot { IsTrue (D.kind disk.old).tells → SparesFamily snapshot_family D.content D.moment D.images disk.old disk.new }
     ensures accepted { IfOk result (λ engine. IsTrue (D.kind disk.old).tells → refusal_in (D.content disk.old).reading ≡ None) }
     ensures refused { IfErr result (IsOpeningRefusal (Rose (D.faults disk.old) (D.faults disk.new)) (D.kind disk.old).limit (IsTrue (D.kind disk.old).tells)
         (refusal_in (D.content disk.old).reading)) }
@@ -108,17 +125,20 @@ pub fn open_folder<D: Disk>(
         → IsUnwritten (D.content disk.old) (D.content disk.new) (NoNewImages (D.images disk.old) (D.images disk.new) (D.moment disk.old) (D.moment disk.new)) }
     ensures heavy { IsTrue (D.kind disk.old).tells → IfErr result (IsHeavy (D.kind disk.old).limit (opened_weight (files_size (D.content disk.old).reading))) }
 {
-    let running = match running_of(alloc, config) {
-        Ok(running) => running,
+    let prepared = match prepare(alloc, config) {
+        Ok(prepared) => prepared,
         Err(error) => return Err(error),
     };
-    let data_dir = match Label::of(alloc, config.cluster.db_root_dir.as_str()) {
-        Ok(data_dir) => data_dir,
-        Err(_) => return Err(Error::OutOfMemory),
-    };
-    let stores = match open_stores(alloc, disk, data_dir) {
+    let stores = match open_stores(alloc, disk, prepared.data_dir) {
         Ok(stores) => stores,
         Err(error) => return Err(error),
     };
-    recover(alloc, disk, stores.log, stores.meta, stores.state, running)
+    recover(
+        alloc,
+        disk,
+        stores.log,
+        stores.meta,
+        stores.state,
+        prepared.running,
+    )
 }

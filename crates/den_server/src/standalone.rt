@@ -2,7 +2,8 @@
 ghost use Rattle.std.specs.Prelude.{◌≡◌, ◌+◌, ◌-◌, ◌⊎◌, Ok, Err, Some, None, IsTrue, IsOk, OnOk, IfErr, length};
 ghost use Rattle.den_disk.specs.Goes.{Rose, IsPrefix, added, DiskGoesOn, LinkGoesOn, ClockGoesOn};
 ghost use Rattle.den_disk.specs.declared.place.Family.TheVariants.{Snapshot as snapshot_family};
-ghost use Rattle.den_disk.specs.Families.{SameOf, NoNewImages};
+ghost use Rattle.den_core.specs.Spared.{SparesFamily};
+ghost use Rattle.den_disk.specs.Families.{NoNewImages};
 ghost use Rattle.den_model.specs.Crash.{Survives, Stands, IsServed, Tells, bytes_of};
 ghost use Rattle.den_model.specs.Frames.{frames};
 ghost use Rattle.den_model.specs.Image.{durable_in};
@@ -90,8 +91,8 @@ impl StandaloneEngine {
             → (Rose (D.faults disk.old) (D.faults disk.new) → ⊥) → (Rose (L.faults link.old) (L.faults link.new) → ⊥)
             → (IsMuch (D.kind disk.old).limit (files_size (D.content disk.old).reading + length (L.left link.old)) → ⊥)
             → (result ≡ Ok tt) ⊎ (result ≡ Err OutOfMemory) }
-        // The files of the snapshot stay as they are.
-        ensures snapshot { IsTrue (D.kind disk.old).tells → SameOf snapshot_family (D.content disk.old).reading (D.content disk.new).reading }
+        // The files of the snapshot stay as they are, and a crash leaves them as it could at entry.
+        ensures snapshot { IsTrue (D.kind disk.old).tells → SparesFamily snapshot_family D.content D.moment D.images disk.old disk.new }
         ensures disk { DiskGoesOn D.kind D.moment D.images D.faults disk.old disk.new }
         ensures link { LinkGoesOn L.tells L.sent L.budget L.taken L.faults link.old link.new }
         ensures clock { ClockGoesOn C.tells C.readings clock.old clock.new }

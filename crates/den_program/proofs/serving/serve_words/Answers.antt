@@ -3,6 +3,8 @@ use Rattle.den_model.specs.Image.{durable_in}
 use Rattle.den_server.proofs.Surviving.{reading_image, all_along}
 use Rattle.den_program.specs.Serving.{start, frame_limit}
 use Rattle.den_program.proofs.Served.{untouched}
+use Rattle.den_disk.specs.declared.place.Family.TheVariants.{Snapshot as snapshot_family}
+use Rattle.den_core.proofs.Spared.{spares_still}
 use Rattle.den_program.proofs.serving.serve_words.Goals as goal
 
 -- ---- no call was made
@@ -36,6 +38,12 @@ returns-in-Err-clause-any_moment g c = λ kept told stands.
     all_along durable_in (D.images disk) (D.images disk) (D.moment disk) (D.moment disk) _ _ _ _ _ stands
     (returns-in-Err-clause-opening g c kept told
     (stands.each (D.content disk).reading ((g.met.D.Disk.images_now disk (D.content disk).reading told.disk_tells).1 (reading_image (D.content disk)))))
+
+pub returns-in_default-clause-snapshot : goal.returns-in_default-clause-snapshot
+returns-in_default-clause-snapshot g c = λ told. spares_still snapshot_family g.D.Disk.content g.D.Disk.moment g.D.Disk.images c.args.disk.now
+
+pub returns-in-Err-clause-snapshot : goal.returns-in-Err-clause-snapshot
+returns-in-Err-clause-snapshot g c = λ told. spares_still snapshot_family g.D.Disk.content g.D.Disk.moment g.D.Disk.images c.args.disk.now
 
 -- ---- the run
 

@@ -16,8 +16,10 @@ use Rattle.den_model.specs.Sizes.{entries_size, files_size, store_rise}
 use Rattle.den_server.specs.Opening.{refusal_in, opened_weight, IsUnwritten}
 use Rattle.den_server.proofs.Ended.{rose_then, some_same, kv_is}
 use Rattle.den_server.proofs.Refused.{read_refusal, read_durable, folder_refused, folder_light, failure_refused, some_refused, heavier, if_err_weaker, if_ok_weaker, if_ok_two, if_ok_on, above_size}
-use Rattle.den_server.proofs.Settled.{no_call, never_settles, settled_survives}
+use Rattle.den_server.proofs.Settled.{spares_read, no_call, never_settles, settled_survives}
 use Rattle.den_server.proofs.Surviving.{opening_then}
+use Rattle.den_disk.specs.declared.place.Family.TheVariants.{Snapshot as snapshot_family}
+use Rattle.den_core.proofs.Spared.{spares_still, spares_twice}
 use Rattle.den_server.proofs.opening.open_folder.Goals as goal
 
 -- ---- what a crash leaves
@@ -47,7 +49,7 @@ returns-clause-opening g c = λ kept told stands.
     let start = entered c.args.config.now kept in
     let joint = read_durable (D.content disk).reading _ _ _ (c.in-Ok-open_stores.ensures.read told) in
     opening_then durable_in (D.images disk) (D.images mid) (D.images c.recover.new.disk) (D.moment disk) (D.moment mid) (D.moment c.recover.new.disk) _ _ _ _ [] start
-    (record { durable = kept; running = c.in-Ok.running }) (λ (k : Kv). []) refl goes.later goes.past
+    (record { durable = kept; running = c.in-Ok.prepared.running }) (λ (k : Kv). []) refl goes.later goes.past
     (settled_survives durable_in (D.images disk) (D.images mid) (D.moment disk) (D.moment mid) _ _ (D.content disk).reading start stands (c.open_stores.ensures.images told)
     (c.in-Ok-open_stores.ensures.settles told))
     (ap (λ (r : Running). record { durable = kept; running = r }) c.in-Ok.ensures.running)
@@ -132,3 +134,19 @@ returns-clause-untouched g c = λ e told is.
     (read_refusal (D.content first).reading _ _ _ _ (c.in-Ok-open_stores.ensures.read told) (c.in-Ok-open_stores.ensures.place told)) is in
     subst (λ d. IsUnwritten (D.content first) (D.content d) (NoNewImages (D.images first) (D.images d) (D.moment first) (D.moment d))) (sym (c.recover.ensures.untouched some))
     (record { content = c.open_stores.ensures.spares told; images = c.open_stores.ensures.images told })
+
+-- ---- the files of the snapshot
+
+pub returns-in-Err-clause-snapshot : goal.returns-in-Err-clause-snapshot
+returns-in-Err-clause-snapshot g c = λ told. spares_still snapshot_family g.D.Disk.content g.D.Disk.moment g.D.Disk.images c.args.disk.now
+
+pub returns-in-Err-open_stores-clause-snapshot : goal.returns-in-Err-open_stores-clause-snapshot
+returns-in-Err-open_stores-clause-snapshot g c = λ told.
+    spares_read snapshot_family g.D.Disk.content g.D.Disk.moment g.D.Disk.images c.args.disk.now c.open_stores.new.disk (c.open_stores.ensures.spares told) (c.open_stores.ensures.images told)
+
+pub returns-clause-snapshot : goal.returns-clause-snapshot
+returns-clause-snapshot g c =
+    spares_twice g.D.Disk.kind g.D.Disk.content g.D.Disk.moment g.D.Disk.images g.D.Disk.faults snapshot_family c.args.disk.now c.open_stores.new.disk c.recover.new.disk
+    c.open_stores.ensures.disk c.recover.ensures.disk
+    (λ told. spares_read snapshot_family g.D.Disk.content g.D.Disk.moment g.D.Disk.images c.args.disk.now c.open_stores.new.disk (c.open_stores.ensures.spares told) (c.open_stores.ensures.images told))
+    c.recover.ensures.snapshot

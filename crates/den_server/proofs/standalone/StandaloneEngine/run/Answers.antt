@@ -20,6 +20,8 @@ use Rattle.den_server.specs.Opening.{refusal_in, SurvivesOpening}
 use Rattle.den_server.proofs.Ended.{rose_then, opening_ended, serving_ended, away, refused_not_read, full_serving, full_opening, completed}
 use Rattle.den_server.proofs.Refused.{if_err_weaker}
 use Rattle.den_server.proofs.Surviving.{reading_image, of_node, opening_then, no_reading, all_along, opening_front, served_from}
+use Rattle.den_disk.specs.declared.place.Family.TheVariants.{Snapshot as snapshot_family}
+use Rattle.den_core.proofs.Spared.{spares_twice}
 use Rattle.den_server.proofs.standalone.StandaloneEngine.run.Goals as goal
 
 -- ---- the opening was refused
@@ -149,3 +151,8 @@ returns-clause-full g c = λ told. if_err_weaker c.run_from.result _ _
     full_serving (D.kind c.args.disk.now).limit weight (files_size (D.content c.args.disk.now).reading) taken e (c.in-Ok.ensures.weight told)
     (subst (λ (k : Kind). IsHeavy k.limit (run_weight weight taken) e) c.open_folder.ensures.disk.same h))
     c.run_from.ensures.heavy
+
+pub returns-clause-snapshot : goal.returns-clause-snapshot
+returns-clause-snapshot g c =
+    spares_twice g.D.Disk.kind g.D.Disk.content g.D.Disk.moment g.D.Disk.images g.D.Disk.faults snapshot_family c.args.disk.now c.open_folder.new.disk c.run_from.new.disk
+    c.open_folder.ensures.disk c.run_from.ensures.disk c.in-Ok.ensures.snapshot c.run_from.ensures.snapshot
