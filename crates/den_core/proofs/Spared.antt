@@ -1,15 +1,17 @@
 -- What a call on one store's files leaves of the others', and what the three stand for then.
-use Rattle.std.proofs.Common.{◌≡◌, ◌↔◌, inl, inr, ⊎_elim, ℕ, ◌≤◌, Option, Some, Result, Ok, Err, OnOk, refl, sym, ◌∙◌, ap, subst, arith}
+use Rattle.std.proofs.Common.{◌≡◌, ◌↔◌, IsTrue, inl, inr, ⊎_elim, ℕ, ◌≤◌, Option, Some, Result, Ok, Err, OnOk, refl, sym, ◌∙◌, ap, subst, arith}
 use Rattle.std.proofs.lemmas.Bool.{cases_lt}
 use Rattle.den_disk.specs.declared.place.Family.{Family}
-use Rattle.den_disk.specs.declared.place.Family.TheVariants.{Log as log_family, Meta as meta_family, State as state_family}
+use Rattle.den_disk.specs.declared.place.Family.TheVariants.{Log as log_family, Meta as meta_family, State as state_family, Snapshot as snapshot_family}
 use Rattle.den_disk.specs.Families.{SameOf, SparesOthers, SparesOwn, SparesImages, OldOrNew}
-use Rattle.den_disk.specs.Files.{Files, Content, IsImage}
+use Rattle.den_disk.specs.Files.{Files, Kind, Content, IsImage}
+use Rattle.den_disk.specs.Goes.{DiskGoesOn, ImagesGoOn}
 use Rattle.den_model.specs.declared.log_id.HardState.{HardState}
 use Rattle.den_model.specs.Image.{durable, joined}
 use Rattle.den_model.specs.Kv.{Durable}
 use Rattle.den_model.specs.Log.{Log}
 use Rattle.den_model.specs.MapState.{MapState}
+use Rattle.den_core.specs.Spared.{SparesFamily}
 
 pub log_meta : log_family ≡ meta_family → ⊥
 log_meta e = cc
@@ -28,6 +30,15 @@ state_log e = cc
 
 pub state_meta : state_family ≡ meta_family → ⊥
 state_meta e = cc
+
+pub snapshot_log : snapshot_family ≡ log_family → ⊥
+snapshot_log e = cc
+
+pub snapshot_meta : snapshot_family ≡ meta_family → ⊥
+snapshot_meta e = cc
+
+pub snapshot_state : snapshot_family ≡ state_family → ⊥
+snapshot_state e = cc
 
 -- each image at each of these moments gives x
 pub record Gives {X : Type 0} (holds : Files → Option X) (images : ℕ → Files → Type 0) (from to : ℕ) (x : X) : Type 0 where
@@ -60,9 +71,46 @@ apart_own own mine old new apart spares = record {
   pending = λ q is k new_pending. spares.pending q (λ same. apart (sym is ∙ same)) k new_pending;
 }
 
--- a family's files are the same over two calls
-pub same_twice : (mine : Family) (one two three : Files) → SameOf mine one two → SameOf mine two three → SameOf mine one three
-same_twice mine one two three first second q is = second q is ∙ first q is
+-- over a call on another family's files
+pub spares_by : {D : Type 0} (own mine : Family) (content : D → Content) (moment : D → ℕ) (images : D → ℕ → Files → Type 0) (old new : D) → (mine ≡ own → ⊥)
+    → SparesOthers own (content old) (content new) → SparesImages own (images old) (images new) (moment old) (moment new) → SparesFamily mine content moment images old new
+spares_by own mine content moment images old new apart others spares = record {
+  own = apart_own own mine (content old) (content new) apart others;
+  images = λ t files begun ended at. let found = spares.each t files begun ended at in (found.0, found.1, λ q is. found.2 q (λ same. apart (sym is ∙ same)));
+}
+
+-- over no call
+pub spares_still : {D : Type 0} (mine : Family) (content : D → Content) (moment : D → ℕ) (images : D → ℕ → Files → Type 0) (disk : D) → SparesFamily mine content moment images disk disk
+spares_still mine content moment images disk = record {
+  own = record { reading = λ q is. refl; pending = λ q is k at. at };
+  images = λ t files begun ended at. let same : t ≡ moment disk = omega arith in (files, subst (λ n. images disk n files) same at, λ q is. refl);
+}
+
+-- over two calls: an image up to the second's entry is one of the first, and one behind it goes back to an image at it
+spares_over : {D : Type 0} (mine : Family) (content : D → Content) (moment : D → ℕ) (images : D → ℕ → Files → Type 0) (old mid new : D)
+    → ImagesGoOn moment images old mid → ImagesGoOn moment images mid new
+    → SparesFamily mine content moment images old mid → SparesFamily mine content moment images mid new → SparesFamily mine content moment images old new
+spares_over mine content moment images old mid new on one_on first second = record {
+  own = record {
+    reading = λ q is. second.own.reading q is ∙ first.own.reading q is;
+    pending = λ q is k at. first.own.pending q is k (second.own.pending q is k at);
+  };
+  images = λ t files begun ended at. ⊎_elim
+      (λ early. first.images t files begun (omega arith) (one_on.past t files (omega arith) at))
+      (λ late.
+      let found = second.images t files late ended at in
+      let before = first.images (moment mid) found.0 on.later (omega arith) found.1 in
+      (before.0, before.1, λ q is. found.2 q is ∙ before.2 q is))
+      (cases_lt t (moment mid));
+}
+
+pub spares_twice : {D : Type 0} (kind : D → Kind) (content : D → Content) (moment : D → ℕ) (images : D → ℕ → Files → Type 0) (faults : D → ℕ) (mine : Family) (old mid new : D)
+    → DiskGoesOn kind moment images faults old mid → DiskGoesOn kind moment images faults mid new
+    → (IsTrue (kind old).tells → SparesFamily mine content moment images old mid) → (IsTrue (kind mid).tells → SparesFamily mine content moment images mid new)
+    → IsTrue (kind old).tells → SparesFamily mine content moment images old new
+spares_twice kind content moment images faults mine old mid new on then_on first second told =
+    let then : IsTrue (kind mid).tells = subst (λ (k : Kind). IsTrue k.tells) (sym on.same) told in
+    spares_over mine content moment images old mid new (on.told told) (then_on.told then) (first told) (second then)
 
 pub joined_is : (a : Option Log) (b : Option (Option HardState)) (c : Option MapState) (l : Log) (h : Option HardState) (s : MapState)
     → a ≡ Some l → b ≡ Some h → c ≡ Some s → joined a b c ≡ durable l h s

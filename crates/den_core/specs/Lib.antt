@@ -6,4 +6,5 @@ pub mod Joined
 pub mod Opening
 pub mod Parts
 pub mod Refusals
+pub mod Spared
 pub mod Weights

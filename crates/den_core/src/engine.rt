@@ -1,17 +1,20 @@
 //! The engine: the next entry into the log and onto the map, and the answer.
 ghost use Rattle.std.specs.Prelude.{◌≡◌, ◌<◌, ◌≤◌, ◌^◌, ◌-◌, ◌+◌, ℕ, IsTrue, List, [], ◌∷◌, Option, Some, OnOk, IfOk, IfErr, false};
 ghost use Rattle.den_disk.specs.declared.place.Family.TheVariants.{Snapshot as snapshot_family};
-ghost use Rattle.den_disk.specs.Families.{OldOrNew, SameOf};
+ghost use Rattle.den_disk.specs.Families.{OldOrNew};
 ghost use Rattle.den_disk.specs.Files.{Files, Content, IsImage};
 ghost use Rattle.den_disk.specs.Goes.{Rose, DiskGoesOn};
 ghost use Rattle.den_model.specs.Apply.{applied, succeeds};
 ghost use Rattle.den_model.specs.Frames.{IsBuiltFrame};
 ghost use Rattle.den_model.specs.Image.{joined, term_of};
 ghost use Rattle.den_model.specs.Kv.{Durable, Kv};
+ghost use Rattle.den_model.specs.Log.{changed};
+ghost use Rattle.den_model.specs.declared.region.LogRegion.TheVariants.{Append};
 ghost use Rattle.den_model.specs.Step.{answer, has_ttl, next_entry, put_through};
 ghost use Rattle.den_store.specs.Causes.{IsRefusal};
 ghost use Rattle.den_codec.specs.Full.{IsHeavy};
 ghost use Rattle.den_core.specs.Parts.{durable_of, kv_of, raised_of, vote_of, IsCaughtUp, IsPlain, IsReady, AllRest};
+ghost use Rattle.den_core.specs.Spared.{SparesFamily};
 ghost use Rattle.den_core.specs.Weights.{commit_rise, frame_rise, raise_rise};
 
 use crate::ask::{Asked, answered, ask};
@@ -99,7 +102,7 @@ fn raise<D: Disk, G: LogStore<D>, T: MetaStore<D>, M: StateMachine<D>>(
         (T.rests engine.old.meta (D.content disk.old)) (M.rests engine.old.state (D.content disk.old)) }
     requires room { term_of (T.hard_state engine.old.meta) < 2 ^ 64 - 1 }
     ensures disk { DiskGoesOn D.kind D.moment D.images D.faults disk.old disk.new }
-    ensures snapshot { IsTrue (D.kind disk.old).tells → SameOf snapshot_family (D.content disk.old).reading (D.content disk.new).reading }
+    ensures snapshot { IsTrue (D.kind disk.old).tells → SparesFamily snapshot_family D.content D.moment D.images disk.old disk.new }
     ensures moves { IsTrue (D.kind disk.old).tells
         → OldOrNew (λ files. joined (G.holds files) (T.holds files) (M.holds files)) (D.images disk.new) (D.moment disk.old) (D.moment disk.new)
         (durable_of (T.hard_state engine.old.meta) (M.map engine.old.state))
@@ -140,7 +143,7 @@ fn commit<D: Disk, G: LogStore<D>, T: MetaStore<D>, M: StateMachine<D>>(
     requires moment { 1 ≤ moment }
     requires no_ttl { has_ttl command ≡ false }
     ensures disk { DiskGoesOn D.kind D.moment D.images D.faults disk.old disk.new }
-    ensures snapshot { IsTrue (D.kind disk.old).tells → SameOf snapshot_family (D.content disk.old).reading (D.content disk.new).reading }
+    ensures snapshot { IsTrue (D.kind disk.old).tells → SparesFamily snapshot_family D.content D.moment D.images disk.old disk.new }
     ensures moves { IsTrue (D.kind disk.old).tells
         → OldOrNew (λ files. joined (G.holds files) (T.holds files) (M.holds files)) (D.images disk.new) (D.moment disk.old) (D.moment disk.new)
         (durable_of (T.hard_state engine.old.meta) (M.map engine.old.state))
@@ -149,6 +152,8 @@ fn commit<D: Disk, G: LogStore<D>, T: MetaStore<D>, M: StateMachine<D>>(
     ensures state { OnOk result (durable_of (T.hard_state engine.new.meta) (M.map engine.new.state)
         ≡ applied (durable_of (T.hard_state engine.old.meta) (M.map engine.old.state))
         (next_entry (kv_of (T.hard_state engine.old.meta) (M.map engine.old.state) engine.old.running) moment command)) }
+    ensures logged { OnOk result (G.log engine.new.log ≡ changed (G.log engine.old.log)
+        (Append (next_entry (kv_of (T.hard_state engine.old.meta) (M.map engine.old.state) engine.old.running) moment command ∷ []))) }
     ensures succeeded { IfOk result (λ succeeded. succeeded ≡ succeeds (durable_of (T.hard_state engine.old.meta) (M.map engine.old.state)) command) }
     ensures running { engine.new.running ≡ engine.old.running }
     ensures ready { OnOk result (IsReady (G.ready engine.new.log) (T.ready engine.new.meta) (M.ready engine.new.state)
@@ -182,7 +187,7 @@ fn answer<D: Disk, G: LogStore<D>, T: MetaStore<D>, M: StateMachine<D>>(
     requires moment { 1 ≤ moment }
     requires built { IsBuiltFrame frame }
     ensures disk { DiskGoesOn D.kind D.moment D.images D.faults disk.old disk.new }
-    ensures snapshot { IsTrue (D.kind disk.old).tells → SameOf snapshot_family (D.content disk.old).reading (D.content disk.new).reading }
+    ensures snapshot { IsTrue (D.kind disk.old).tells → SparesFamily snapshot_family D.content D.moment D.images disk.old disk.new }
     ensures moves { IsTrue (D.kind disk.old).tells
         → OldOrNew (λ files. joined (G.holds files) (T.holds files) (M.holds files)) (D.images disk.new) (D.moment disk.old) (D.moment disk.new)
         (durable_of (T.hard_state engine.old.meta) (M.map engine.old.state))

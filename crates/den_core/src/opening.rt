@@ -3,7 +3,7 @@ ghost use Rattle.std.specs.Prelude.{◌≡◌, ◌==◌, ◌||◌, ◌^◌, ◌-
 ghost use Rattle.den_codec.specs.declared.error.Error.TheVariants.{OutOfMemory};
 ghost use Rattle.den_codec.specs.Full.{IsHeavy};
 ghost use Rattle.den_disk.specs.declared.place.Family.TheVariants.{Snapshot as snapshot_family, State as state_family};
-ghost use Rattle.den_disk.specs.Families.{OldOrNew, SameOf, SparesImages, SparesOthers};
+ghost use Rattle.den_disk.specs.Families.{OldOrNew, SparesImages, SparesOthers};
 ghost use Rattle.den_disk.specs.Files.{Files, Content};
 ghost use Rattle.den_disk.specs.Goes.{Rose, DiskGoesOn};
 ghost use Rattle.den_model.specs.Crash.{Survives};
@@ -16,6 +16,7 @@ ghost use Rattle.den_state.specs.Chunk.{asks_lease, has_expiry, out_of_order};
 ghost use Rattle.den_store.specs.Causes.{IsRefusal};
 ghost use Rattle.den_core.specs.Opening.{agrees, opening_refusal, refusal_by, IsLeft, IsOpeningFailure};
 ghost use Rattle.den_core.specs.Parts.{kv_of, IsPlain, AllRest};
+ghost use Rattle.den_core.specs.Spared.{SparesFamily};
 
 use crate::ask::has_ttl;
 use crate::engine::current_term;
@@ -180,7 +181,7 @@ fn catch_up<D: Disk, G: LogStore<D>, T: MetaStore<D>, M: StateMachine<D>>(
     requires left { IsLeft (G.log log) (M.map state) entries.now }
     requires no_ttl { asks_lease entries.now ≡ false }
     ensures disk { DiskGoesOn D.kind D.moment D.images D.faults disk.old disk.new }
-    ensures snapshot { IsTrue (D.kind disk.old).tells → SameOf snapshot_family (D.content disk.old).reading (D.content disk.new).reading }
+    ensures snapshot { IsTrue (D.kind disk.old).tells → SparesFamily snapshot_family D.content D.moment D.images disk.old disk.new }
     ensures survives { (kept : Durable) → IsTrue (D.kind disk.old).tells → durable (G.log log) (T.hard_state meta) (M.map state) ≡ Some kept
         → Survives (λ files. joined (G.holds files) (T.holds files) (M.holds files)) (D.images disk.new) (D.moment disk.old) (D.moment disk.new) []
         (record { durable = kept; running = running }) [] }
@@ -214,7 +215,7 @@ pub fn recover<D: Disk, G: LogStore<D>, T: MetaStore<D>, M: StateMachine<D>>(
     requires rests { IsTrue (D.kind disk.old).tells → AllRest (G.rests log (D.content disk.old)) (T.rests meta (D.content disk.old)) (M.rests state (D.content disk.old)) }
     requires plain { IsPlain running }
     ensures disk { DiskGoesOn D.kind D.moment D.images D.faults disk.old disk.new }
-    ensures snapshot { IsTrue (D.kind disk.old).tells → SameOf snapshot_family (D.content disk.old).reading (D.content disk.new).reading }
+    ensures snapshot { IsTrue (D.kind disk.old).tells → SparesFamily snapshot_family D.content D.moment D.images disk.old disk.new }
     ensures survives { (kept : Durable) → IsTrue (D.kind disk.old).tells → durable (G.log log) (T.hard_state meta) (M.map state) ≡ Some kept
         → Survives (λ files. joined (G.holds files) (T.holds files) (M.holds files)) (D.images disk.new) (D.moment disk.old) (D.moment disk.new) []
         (record { durable = kept; running = running }) [] }

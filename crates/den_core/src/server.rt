@@ -2,7 +2,6 @@
 ghost use Rattle.std.specs.Prelude.{◌≡◌, ◌<◌, ◌≤◌, ◌^◌, ◌+◌, ◌-◌, ◌++◌, ℕ, List, drop, IsTrue, OnOk, IfErr, length, vec_len};
 ghost use Rattle.den_codec.specs.Full.{IsHeavy};
 ghost use Rattle.den_disk.specs.declared.place.Family.TheVariants.{Snapshot as snapshot_family};
-ghost use Rattle.den_disk.specs.Families.{SameOf};
 ghost use Rattle.den_disk.specs.Goes.{Rose, IsPrefix, stamped, added, DiskGoesOn, LinkGoesOn, ClockGoesOn};
 ghost use Rattle.den_model.specs.Crash.{Survives, IsWhole, IsDone, IsServed, Tells};
 ghost use Rattle.den_model.specs.Frames.{framed, frames, IsBuiltFrame};
@@ -10,6 +9,7 @@ ghost use Rattle.den_model.specs.Plan.{turn, turns, plan};
 ghost use Rattle.den_core.specs.Answers.{frames_of};
 ghost use Rattle.den_core.specs.Early.{EarlyIsRefused};
 ghost use Rattle.den_core.specs.Refusals.{IsLinkRefusal, IsServeRefusal};
+ghost use Rattle.den_core.specs.Spared.{SparesFamily};
 ghost use Rattle.den_core.specs.Weights.{frame_rise, run_weight, served_weight};
 
 use crate::{FrameReader, StepOut, Stepper};
@@ -93,7 +93,7 @@ fn serve_frame<D: Disk, L: Link, S: Stepper<D>>(
     requires built { IsBuiltFrame frame }
     requires moment { 1 ≤ moment }
     ensures disk { DiskGoesOn D.kind D.moment D.images D.faults disk.old disk.new }
-    ensures snapshot { IsTrue (D.kind disk.old).tells → SameOf snapshot_family (D.content disk.old).reading (D.content disk.new).reading }
+    ensures snapshot { IsTrue (D.kind disk.old).tells → SparesFamily snapshot_family D.content D.moment D.images disk.old disk.new }
     ensures link { LinkGoesOn L.tells L.sent L.budget L.taken L.faults link.old link.new }
     ensures left { IsTrue (L.tells link.old) → L.left link.new ≡ L.left link.old }
     ensures taken { L.taken link.new ≡ L.taken link.old }
@@ -125,7 +125,7 @@ pub fn serve<D: Disk, L: Link, C: Clock, S: Stepper<D>>(
     requires ready { S.ready stepper.old }
     requires rests { IsTrue (D.kind disk.old).tells → S.rests stepper.old (D.content disk.old) }
     ensures disk { DiskGoesOn D.kind D.moment D.images D.faults disk.old disk.new }
-    ensures snapshot { IsTrue (D.kind disk.old).tells → SameOf snapshot_family (D.content disk.old).reading (D.content disk.new).reading }
+    ensures snapshot { IsTrue (D.kind disk.old).tells → SparesFamily snapshot_family D.content D.moment D.images disk.old disk.new }
     ensures link { LinkGoesOn L.tells L.sent L.budget L.taken L.faults link.old link.new }
     ensures clock { ClockGoesOn C.tells C.readings clock.old clock.new }
     ensures counted { IsTrue (L.tells link.old) → L.taken link.new + length (L.left link.new) ≡ L.taken link.old + length (L.left link.old) }
@@ -185,7 +185,7 @@ pub fn run_from<D: Disk, L: Link, C: Clock, S: Stepper<D>>(
         → Survives S.holds (D.images disk.new) (D.moment disk.old) (D.moment disk.new) (added (L.sent link.old) (L.sent link.new))
         (S.kv stepper.old) (plan (S.kv stepper.old) (frames limit (L.left link.old)) (added (C.readings clock.old) (C.readings clock.new))) }
     ensures disk { DiskGoesOn D.kind D.moment D.images D.faults disk.old disk.new }
-    ensures snapshot { IsTrue (D.kind disk.old).tells → SameOf snapshot_family (D.content disk.old).reading (D.content disk.new).reading }
+    ensures snapshot { IsTrue (D.kind disk.old).tells → SparesFamily snapshot_family D.content D.moment D.images disk.old disk.new }
     ensures link { LinkGoesOn L.tells L.sent L.budget L.taken L.faults link.old link.new }
     ensures clock { ClockGoesOn C.tells C.readings clock.old clock.new }
     ensures counted { IsTrue (L.tells link.old) → L.taken link.new + length (L.left link.new) ≡ L.taken link.old + length (L.left link.old) }

@@ -1,7 +1,6 @@
 //! What the loop over frames sees of an engine.
 ghost use Rattle.std.specs.Prelude.{◌≡◌, ◌<◌, ◌≤◌, ◌^◌, ◌+◌, ◌-◌, ℕ, IsTrue, List, [], Option, Some, OnOk, IfOk, IfErr};
 ghost use Rattle.den_disk.specs.declared.place.Family.TheVariants.{Snapshot as snapshot_family};
-ghost use Rattle.den_disk.specs.Families.{SameOf};
 ghost use Rattle.den_disk.specs.Files.{Files, Content, IsImage};
 ghost use Rattle.den_disk.specs.Goes.{Rose, DiskGoesOn};
 ghost use Rattle.den_model.specs.Kv.{Durable, Kv};
@@ -11,6 +10,7 @@ ghost use Rattle.den_model.specs.Frames.{IsBuiltFrame};
 ghost use Rattle.den_store.specs.Causes.{IsRefusal};
 ghost use Rattle.den_codec.specs.Full.{IsHeavy};
 ghost use Rattle.den_core.specs.Answers.{frames_of};
+ghost use Rattle.den_core.specs.Spared.{SparesFamily};
 ghost use Rattle.den_core.specs.Weights.{frame_rise, opening_rise};
 
 use den_codec::{Error, Frame, Reply, Rows, WatchEvent};
@@ -49,7 +49,7 @@ pub trait Stepper<D: Disk>: Drop {
         requires term { (kv self.old).durable.term < 2 ^ 64 - 1 }
         requires index { (kv self.old).durable.last_index < 2 ^ 64 - 1 }
         ensures disk { DiskGoesOn D.kind D.moment D.images D.faults disk.old disk.new }
-        ensures snapshot { IsTrue (D.kind disk.old).tells → SameOf snapshot_family (D.content disk.old).reading (D.content disk.new).reading }
+        ensures snapshot { IsTrue (D.kind disk.old).tells → SparesFamily snapshot_family D.content D.moment D.images disk.old disk.new }
         ensures survives { IsTrue (D.kind disk.old).tells
             → Survives holds (D.images disk.new) (D.moment disk.old) (D.moment disk.new) [] (kv self.old) (opening (kv self.old) moment) }
         ensures state { OnOk result (kv self.new ≡ after (kv self.old) (opening (kv self.old) moment)) }
@@ -66,7 +66,7 @@ pub trait Stepper<D: Disk>: Drop {
         requires moment { 1 ≤ moment }
         requires built { IsBuiltFrame frame }
         ensures disk { DiskGoesOn D.kind D.moment D.images D.faults disk.old disk.new }
-        ensures snapshot { IsTrue (D.kind disk.old).tells → SameOf snapshot_family (D.content disk.old).reading (D.content disk.new).reading }
+        ensures snapshot { IsTrue (D.kind disk.old).tells → SparesFamily snapshot_family D.content D.moment D.images disk.old disk.new }
         ensures survives { IsTrue (D.kind disk.old).tells
             → Survives holds (D.images disk.new) (D.moment disk.old) (D.moment disk.new) [] (kv self.old) (turn (kv self.old) frame moment) }
         ensures state { OnOk result (kv self.new ≡ after (kv self.old) (turn (kv self.old) frame moment)) }

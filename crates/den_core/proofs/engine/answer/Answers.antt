@@ -1,5 +1,5 @@
 use Rattle.den_core.specs.Joined.{durable_is}
-use Rattle.den_core.proofs.Spared.{gives_now, gives_old, all_give}
+use Rattle.den_core.proofs.Spared.{gives_now, gives_old, all_give, spares_still}
 use Rattle.den_core.proofs.engine.answer.Goals as goal
 
 -- nothing was done
@@ -30,3 +30,9 @@ returns-in-Say-clause-moves g c = λ told.
     (λ files rest at. g.met.T.MetaStore.rests_hold engine.meta (D.content disk) files c.requires.ready.meta rest at) rests.meta)
     (gives_now _ (g.M.StateMachine.rests engine.state) _ _ _ _ (λ files. g.met.D.Disk.images_now disk files told)
     (λ files rest at. g.met.M.StateMachine.rests_hold engine.state (D.content disk) files c.requires.ready.state rest at) rests.state))
+
+pub returns-in_err-command-clause-snapshot : goal.returns-in_err-command-clause-snapshot
+returns-in_err-command-clause-snapshot g c = λ told. spares_still _ _ _ _ _
+
+pub returns-in-Say-clause-snapshot : goal.returns-in-Say-clause-snapshot
+returns-in-Say-clause-snapshot g c = λ told. spares_still _ _ _ _ _

@@ -1,12 +1,14 @@
-use Rattle.std.proofs.Common.{IsTrue, Some, refl, sym, ap, subst, ◌∙◌, arith}
+use Rattle.std.proofs.Common.{IsTrue, [], ◌∷◌, Some, refl, sym, ap, subst, ◌∙◌, arith}
 use Rattle.den_disk.specs.Families.{OldOrNew}
 use Rattle.den_disk.specs.Files.{Kind}
 use Rattle.den_model.specs.Apply.{applied}
+use Rattle.den_model.specs.declared.region.LogRegion.TheVariants.{Append}
 use Rattle.den_model.specs.Image.{joined}
+use Rattle.den_model.specs.Log.{changed}
 use Rattle.den_core.specs.Joined.{durable_is}
 use Rattle.den_core.specs.Parts.{durable_of}
 use Rattle.den_core.proofs.Durables.{logged_is, applied_again, caught_up_now, next_is}
-use Rattle.den_core.proofs.Spared.{gives_now, spared, apart_own, log_moves, state_moves, moves_then, meta_log, state_log, log_state, meta_state}
+use Rattle.den_core.proofs.Spared.{gives_now, spared, apart_own, log_moves, state_moves, moves_then, meta_log, state_log, log_state, meta_state, snapshot_log, snapshot_state, spares_by, spares_twice}
 use Rattle.den_core.proofs.Weighing.{entry_is, heavier_out}
 use Rattle.den_core.proofs.engine.commit.Goals as goal
 
@@ -154,3 +156,25 @@ returns-in_err-results-clause-heavy g c = heavier_out c.from_residual-in_err-res
 
 pub returns-clause-weight : goal.returns-clause-weight
 returns-clause-weight g c = omega (arith, c.in_ok-persist_entries.ensures.weight, c.in_ok-results.ensures.weight, entry_is c.of.result _ _ _ c.args.command c.of.ensures)
+
+-- neither writes in the snapshot's files
+pub returns-in_err-persist_entries-clause-snapshot : goal.returns-in_err-persist_entries-clause-snapshot
+returns-in_err-persist_entries-clause-snapshot g c = λ told. spares_by _ _ _ _ _ _ _ snapshot_log (c.persist_entries.ensures.spares told) (c.persist_entries.ensures.others told)
+
+pub returns-in_err-results-clause-snapshot : goal.returns-in_err-results-clause-snapshot
+returns-in_err-results-clause-snapshot g c = spares_twice _ _ _ _ _ _ _ _ _ c.persist_entries.ensures.disk c.apply_chunk.ensures.disk
+    (λ told. spares_by _ _ _ _ _ _ _ snapshot_log (c.persist_entries.ensures.spares told) (c.persist_entries.ensures.others told))
+    (λ told. spares_by _ _ _ _ _ _ _ snapshot_state (c.apply_chunk.ensures.spares told) (c.apply_chunk.ensures.others told))
+
+pub returns-clause-snapshot : goal.returns-clause-snapshot
+returns-clause-snapshot g c = spares_twice _ _ _ _ _ _ _ _ _ c.persist_entries.ensures.disk c.apply_chunk.ensures.disk
+    (λ told. spares_by _ _ _ _ _ _ _ snapshot_log (c.persist_entries.ensures.spares told) (c.persist_entries.ensures.others told))
+    (λ told. spares_by _ _ _ _ _ _ _ snapshot_state (c.apply_chunk.ensures.spares told) (c.apply_chunk.ensures.others told))
+
+-- the entry that was made is in the log
+pub returns-clause-logged : goal.returns-clause-logged
+returns-clause-logged g c =
+    let engine = c.args.engine.now in
+    let l = g.G.LogStore.log engine.log in
+    let is = next_is (g.T.MetaStore.hard_state engine.meta) (g.M.StateMachine.map engine.state) engine.running _ _ c.args.moment c.args.command c.of.result c.of.ensures (ap (λ i. i.index) c.last_applied-index.ensures) c.current_term-term.ensures in
+    c.in_ok-persist_entries.ensures.persisted ∙ ap (λ e. changed l (Append (e ∷ []))) is

@@ -2,7 +2,7 @@ use Rattle.std.proofs.Common.{◌+◌, Some, refl, ap, ◌∙◌, arith}
 use Rattle.std.proofs.lemmas.Result.{on_ok_weaker, IfErr-weaker}
 use Rattle.den_model.specs.MapState.{part_of}
 use Rattle.den_core.specs.Joined.{durable_is}
-use Rattle.den_core.proofs.Spared.{gives_now, spared, apart_own, meta_moves, log_meta, state_meta}
+use Rattle.den_core.proofs.Spared.{gives_now, spared, apart_own, meta_moves, log_meta, state_meta, snapshot_meta, spares_by}
 use Rattle.den_core.proofs.Weighing.{hard_state_length, heavier}
 use Rattle.den_core.proofs.engine.raise.Goals as goal
 
@@ -40,3 +40,6 @@ returns-clause-weight g c = on_ok_weaker c.save_hard_state.result (λ weight. om
 
 pub returns-clause-heavy : goal.returns-clause-heavy
 returns-clause-heavy g c = IfErr-weaker c.save_hard_state.result _ _ (λ e heavy. heavier _ _ _ _ e refl (omega (arith, hard_state_length (record { current_term = c.current_term-term.result + 1; voted_for = c.vote.result }))) heavy) c.save_hard_state.ensures.heavy
+
+pub returns-clause-snapshot : goal.returns-clause-snapshot
+returns-clause-snapshot g c = λ told. spares_by _ _ _ _ _ _ _ snapshot_meta (c.save_hard_state.ensures.spares told) (c.save_hard_state.ensures.others told)

@@ -2,7 +2,7 @@ use Rattle.std.proofs.Common.{Some, sym, ap, subst, ◌∙◌}
 use Rattle.den_core.specs.Parts.{durable_of, IsCaughtUp}
 use Rattle.den_core.proofs.CatchUp.{left_is, left_again, left_in_order, left_caught_up, left_applied}
 use Rattle.den_core.proofs.Quiet.{stays}
-use Rattle.den_core.proofs.Spared.{gives_now, same_gives, spared, state_moves, apart_own, log_state, meta_state}
+use Rattle.den_core.proofs.Spared.{gives_now, same_gives, spared, state_moves, apart_own, log_state, meta_state, snapshot_state, spares_by}
 use Rattle.den_core.proofs.opening.catch_up.Goals as goal
 
 pub apply_all-requires-clause-in_order : goal.apply_all-requires-clause-in_order
@@ -62,3 +62,9 @@ returns-clause-rests g c = λ told. c.new.ensures.rests (g.D.Disk.content c.appl
   meta = g.met.T.MetaStore.rests_own c.args.meta _ _ (apart_own _ _ _ _ meta_state (c.in_ok-apply_all.ensures.spares told)) (c.requires.rests told).meta;
   state = c.in_ok-apply_all.ensures.rests told;
 })
+
+pub returns-in_err-apply_all-clause-snapshot : goal.returns-in_err-apply_all-clause-snapshot
+returns-in_err-apply_all-clause-snapshot g c = λ told. spares_by _ _ _ _ _ _ _ snapshot_state (c.apply_all.ensures.spares told) (c.apply_all.ensures.others told)
+
+pub returns-clause-snapshot : goal.returns-clause-snapshot
+returns-clause-snapshot g c = λ told. spares_by _ _ _ _ _ _ _ snapshot_state (c.apply_all.ensures.spares told) (c.apply_all.ensures.others told)

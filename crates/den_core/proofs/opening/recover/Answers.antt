@@ -2,7 +2,7 @@ use Rattle.std.proofs.Common.{inl, ap, ◌∙◌}
 use Rattle.std.proofs.lemmas.Result.{IfOk-weaker}
 use Rattle.den_core.proofs.CatchUp.{refused_here, left_here, free_here, none_some, refused_later, room_here}
 use Rattle.den_core.proofs.Quiet.{stays}
-use Rattle.den_core.proofs.Spared.{gives_now, all_give, on_ok_just}
+use Rattle.den_core.proofs.Spared.{gives_now, all_give, on_ok_just, spares_still}
 use Rattle.den_core.proofs.opening.recover.Goals as goal
 
 -- nothing was done
@@ -71,3 +71,9 @@ pub returns-in-None-clause-index : goal.returns-in-None-clause-index
 returns-in-None-clause-index g c = IfOk-weaker c.catch_up.result _ _ (λ engine is. (room_here (g.G.LogStore.log c.args.log) (g.T.MetaStore.hard_state c.args.meta) (g.M.StateMachine.map c.args.state) _ _ _
     (ap (λ i. i.index) c.last_applied-mark.ensures) (left_here _ (g.G.LogStore.log c.args.log) (g.T.MetaStore.hard_state c.args.meta) (g.M.StateMachine.map c.args.state) _ _ _ _
     (ap (λ i. i.index) c.last_applied-mark.ensures) (c.as_slice-entries.ensures ∙ c.in_ok-found.ensures.entries) c.needs_lease-lease.ensures c.refusal.ensures.refusal c.in-None.is) c.in-None.ensures.room is).1) c.catch_up.ensures.opened
+
+pub returns-in_err-found-clause-snapshot : goal.returns-in_err-found-clause-snapshot
+returns-in_err-found-clause-snapshot g c = λ told. spares_still _ _ _ _ _
+
+pub returns-in-Some-clause-snapshot : goal.returns-in-Some-clause-snapshot
+returns-in-Some-clause-snapshot g c = λ told. spares_still _ _ _ _ _

@@ -4,6 +4,7 @@ use Rattle.den_model.specs.Crash.{Stands, Tells}
 use Rattle.den_model.specs.Frames.{frames}
 use Rattle.den_core.proofs.GoesOn.{on_ok_three}
 use Rattle.den_core.proofs.Beginning.{opens_only, runs, runs_whole}
+use Rattle.den_core.proofs.Spared.{spares_twice}
 use Rattle.den_core.proofs.Stretch.{stands_now}
 use Rattle.den_core.proofs.server.run_from.Goals as goal
 
@@ -39,3 +40,6 @@ returns-clause-served g c = on_ok_three c.serve.result (λ done ready rests told
     _ _ _ _ _ _ _ (opening.disk.told told.disk_tells).later on.later on.past
     (c.now.ensures.told (c.serve.ensures.clock.told told.clock_tells)) (c.serve.ensures.clock.grows told.clock_tells) opening.state
     _ _ (done here) stands) c.serve.ensures.done c.serve.ensures.ready c.serve.ensures.rests
+
+pub returns-clause-snapshot : goal.returns-clause-snapshot
+returns-clause-snapshot g c = spares_twice _ _ _ _ _ _ _ _ _ c.open_at.ensures.disk c.serve.ensures.disk c.open_at.ensures.snapshot c.serve.ensures.snapshot

@@ -4,7 +4,7 @@ use Rattle.den_model.specs.Crash.{Tells}
 use Rattle.den_model.specs.Frames.{frames}
 use Rattle.den_core.proofs.FramesSoFar.{begins, begun_over, served_over, done_over}
 use Rattle.den_core.proofs.GoesOn.{disk_same, disk_twice, link_same, link_twice, clock_same, clock_twice, clock_read, found_some, found_none}
-use Rattle.den_core.proofs.Spared.{same_twice}
+use Rattle.den_core.proofs.Spared.{spares_still, spares_twice}
 use Rattle.den_core.proofs.Stretch.{stands_now}
 use Rattle.den_core.proofs.Weighing.{counted_on, served_on, heavier_out}
 use Rattle.den_core.proofs.server.serve.Goals as goal
@@ -13,7 +13,7 @@ pub frames-init : goal.frames-init
 frames-init g c = record {
   limit = c.new-reader.ensures;
   disk = disk_same _ _ _ _ _;
-  snapshot = λ told q is. refl;
+  snapshot = λ told. spares_still _ _ _ _ _;
   link = link_same _ _ _ _ _ _;
   clock = clock_same _ _ _;
   counted = λ told. refl;
@@ -64,7 +64,7 @@ frames-preserved g c =
     record {
       limit = c.next.ensures.limit ∙ inv.limit;
       disk = disk_twice _ _ _ _ _ _ _ inv.disk c.serve_frame.ensures.disk;
-      snapshot = λ told. same_twice _ _ _ _ (inv.snapshot told) (c.serve_frame.ensures.snapshot (subst (λ (k : Kind). IsTrue k.tells) (sym inv.disk.same) told));
+      snapshot = spares_twice _ _ _ _ _ _ _ _ _ inv.disk c.serve_frame.ensures.disk inv.snapshot c.serve_frame.ensures.snapshot;
       link = link_twice _ _ _ _ _ _ _ _ (link_twice _ _ _ _ _ _ _ _ inv.link c.next.ensures.on) c.serve_frame.ensures.link;
       clock = clock_twice _ _ _ _ _ inv.clock (clock_read _ _ _ _ c.now.result c.now.ensures.told c.now.ensures.tells);
       counted = λ told.
@@ -92,3 +92,6 @@ frames-preserved g c =
           (c.serve_frame.ensures.survives disk_tells then_tells)
           _ (c.in_ok-serve_frame.ensures.whole then_tells);
     }
+
+pub returns-in_err-serve_frame-clause-snapshot : goal.returns-in_err-serve_frame-clause-snapshot
+returns-in_err-serve_frame-clause-snapshot g c = spares_twice _ _ _ _ _ _ _ _ _ c.frames.invariant.disk c.serve_frame.ensures.disk c.frames.invariant.snapshot c.serve_frame.ensures.snapshot

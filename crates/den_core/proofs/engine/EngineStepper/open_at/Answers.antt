@@ -1,5 +1,6 @@
 use Rattle.std.proofs.Common.{IsTrue, sym, subst}
 use Rattle.den_core.specs.Parts.{kv_of}
+use Rattle.den_core.proofs.Spared.{spares_twice}
 use Rattle.den_core.proofs.Steps.{opening_begun, opening_made, raised_is}
 use Rattle.den_core.proofs.engine.EngineStepper.open_at.Goals as goal
 
@@ -25,3 +26,9 @@ returns-clause-survives g c = λ told.
     opening_made _ _ _ _ _ _ kv _ c.args.moment c.requires.ready.plain.no_lease
     (raised_is (g.T.MetaStore.hard_state self.meta) _ _ _ _ _ c.in_ok-raise.ensures.raised c.raise.ensures.map c.raise.ensures.running)
     (c.commit.ensures.disk.told then).past (c.raise.ensures.moves told) (c.commit.ensures.moves then)
+
+pub returns-in_err-commit-clause-snapshot : goal.returns-in_err-commit-clause-snapshot
+returns-in_err-commit-clause-snapshot g c = spares_twice _ _ _ _ _ _ _ _ _ c.raise.ensures.disk c.commit.ensures.disk c.raise.ensures.snapshot c.commit.ensures.snapshot
+
+pub returns-clause-snapshot : goal.returns-clause-snapshot
+returns-clause-snapshot g c = spares_twice _ _ _ _ _ _ _ _ _ c.raise.ensures.disk c.commit.ensures.disk c.raise.ensures.snapshot c.commit.ensures.snapshot
