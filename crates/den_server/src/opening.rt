@@ -70,6 +70,13 @@ struct Stores {
     state: FileStateMachine,
 }
 
+fn stores_of<D: Disk>(storage: FileStorageEngine, state: FileStateMachine) -> Stores
+    ensures { result ≡ record { log = storage.log; meta = storage.meta; state = state } }
+{
+    let (log, meta) = StorageEngine::<D>::split(storage);
+    Stores { log, meta, state }
+}
+
 // Opens log, hard state and map, in this order. Nothing is written.
 fn open_stores<D: Disk>(alloc: Global, disk: &mut D, data_dir: Label) -> Result<Stores, Error>
     ensures disk { DiskGoesOn D.kind D.moment D.images D.faults disk.old disk.new }
@@ -90,10 +97,7 @@ fn open_stores<D: Disk>(alloc: Global, disk: &mut D, data_dir: Label) -> Result<
         Err(error) => return Err(error),
     };
     match FileStateMachine::new(alloc, disk) {
-        Ok(state) => {
-            let (log, meta) = StorageEngine::<D>::split(storage);
-            Ok(Stores { log, meta, state })
-        }
+        Ok(state) => Ok(stores_of::<D>(storage, state)),
         Err(error) => Err(error),
     }
 }

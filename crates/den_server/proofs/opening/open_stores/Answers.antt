@@ -1,11 +1,13 @@
-use Rattle.std.proofs.Common.{IsTrue, ◌≡◌, ◌≤◌, ◌+◌, ⊎_elim, ℕ, refl, sym, subst, ap, ◌∙◌, arith}
+use Rattle.std.proofs.Common.{IsTrue, ◌≡◌, ◌≤◌, ◌+◌, ◌*◌, ⊎_elim, ℕ, refl, sym, subst, ap, ◌∙◌, arith}
 use Rattle.den_disk.specs.declared.place.Family.TheVariants as family
 use Rattle.den_disk.specs.Place.{place_number}
 use Rattle.den_disk.specs.Files.{Files, Kind}
 use Rattle.den_model.specs.Image.{map_in, slot_of}
-use Rattle.den_model.specs.Sizes.{family_size}
+use Rattle.den_model.specs.Sizes.{family_size, files_size}
 use Rattle.den_store.specs.FileLog.{file_log}
 use Rattle.den_store.specs.FileMeta.{file_state}
+use Rattle.den_server.specs.declared.opening.Stores.{Stores}
+use Rattle.den_server.specs.Opening.{IsRead}
 use Rattle.den_server.proofs.Ended.{rose_then}
 use Rattle.den_server.proofs.Refused.{storage_unread, state_unread, unread_refused, state_refused}
 use Rattle.den_server.proofs.Settled.{same_reading, settled_or_same, never_settles, settles_now, settles_on}
@@ -43,11 +45,12 @@ returns-in-Ok-new-clause-read g c = λ told.
     let c1 = D.content c.new.new.disk in
     let told1 : IsTrue (D.kind c.new.new.disk).tells = subst (λ (k : Kind). IsTrue k.tells) (sym c.new.ensures.disk.same) told in
     let one : c1.reading ≡ c0.reading = same_reading c0 c1 (c.new.ensures.spares told) in
-    record {
+    subst (λ (s : Stores). IsRead c0.reading (file_log s.log) (file_state s.meta) s.state.map) (sym c.stores_of.ensures)
+    (record {
       log = c.in-Ok.ensures.log told;
       hard_state = c.in-Ok.ensures.hard_state told;
       map = sym (ap map_in one) ∙ c.in-Ok-new.ensures.opened told1;
-    }
+    })
 
 pub returns-in-Ok-new-clause-weight : goal.returns-in-Ok-new-clause-weight
 returns-in-Ok-new-clause-weight g c = λ told.
@@ -57,7 +60,8 @@ returns-in-Ok-new-clause-weight g c = λ told.
     let told1 : IsTrue (D.kind c.new.new.disk).tells = subst (λ (k : Kind). IsTrue k.tells) (sym c.new.ensures.disk.same) told in
     let one : c1.reading ≡ c0.reading = same_reading c0 c1 (c.new.ensures.spares told) in
     let state : family_size family.State c1.reading ≡ family_size family.State c0.reading = ap (family_size family.State) one in
-    omega (arith, c.in-Ok.ensures.log_weight told, c.in-Ok.ensures.meta_weight told, c.in-Ok-new.ensures.weight told1, state)
+    subst (λ (s : Stores). s.log.gate.end + s.meta.gate.end + s.state.gate.end ≤ 768 + 4 * files_size c0.reading) (sym c.stores_of.ensures)
+    (omega (arith, c.in-Ok.ensures.log_weight told, c.in-Ok.ensures.meta_weight told, c.in-Ok-new.ensures.weight told1, state))
 
 -- ---- from which moment on a crash leaves what was read
 
