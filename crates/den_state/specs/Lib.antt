@@ -1,6 +1,5 @@
 pub mod Chunk
 pub mod Fold
 pub mod Journal
-pub mod Keyed
 pub mod Laws
 pub mod Machine

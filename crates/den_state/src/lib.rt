@@ -1,13 +1,11 @@
 //! The state machine: the map, its journal and its mark.
 #![tactic(auto)]
 
-mod byte_map;
 mod chunk;
 mod file_machine;
 mod fold;
 mod machine;
 mod map;
 
-pub use byte_map::ByteMap;
 pub use file_machine::FileStateMachine;
 pub use machine::StateMachine;

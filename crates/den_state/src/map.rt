@@ -7,8 +7,8 @@ ghost use Rattle.den_model.specs.MapState.{MapState, empty_map, part_of, with_pa
 ghost use Rattle.den_state.specs.Fold.{carried};
 ghost use Rattle.den_state.specs.Journal.{expiry_of, recorded};
 
-use crate::ByteMap;
 use den_codec::{Blob, Command, Entry, Held, JournalRecord, LogId, Positive};
+use den_lease::ByteMap;
 use std::alloc::{AllocError, Global};
 use std::marker::Model;
 
@@ -16,7 +16,7 @@ use std::marker::Model;
 #[derive(Drop)]
 pub struct Map {
     pairs: ByteMap<Held>,
-    expiries: ByteMap<u64>,
+    expiries: ByteMap<Positive>,
     mark: LogId,
 }
 
@@ -155,7 +155,7 @@ impl Map {
         ensures { OnOk result (self.new ≡ with_pair self.old key.now held.value held.term expiry) }
     {
         self.pairs.insert(alloc, key.as_slice(), held)?;
-        if expiry != 0 {
+        if let Some(expiry) = Positive::new(expiry) {
             self.expiries.insert(alloc, key.as_slice(), expiry)?;
         }
         Ok(())

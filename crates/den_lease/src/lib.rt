@@ -1,0 +1,13 @@
+//! Leases: the moments at which keys expire.
+#![tactic(auto)]
+
+mod byte_map;
+mod default_lease;
+mod expiries;
+mod lease;
+mod snapshot;
+
+pub use byte_map::ByteMap;
+pub use default_lease::{DefaultLease, ReloadError};
+pub use lease::Lease;
+pub use snapshot::{LeaseRow, LeaseSnapshot};
