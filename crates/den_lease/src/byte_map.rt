@@ -1,9 +1,13 @@
 //! A map keyed by bytes.
 ghost use Rattle.std.specs.Prelude.{◌≡◌, ℕ, List, [], Option, option_copied, OnOk, OnErr, is_some, length};
-ghost use Rattle.den_model.specs.Table.{at, set, unset, is_held};
+ghost use Rattle.std.specs.List.Sorted.{IsStrictlySortedBy};
+ghost use Rattle.std.specs.Map.{keys_of};
+ghost use Rattle.den_model.specs.Table.{at, by_bytes, set, unset, is_held};
+ghost use Rattle.den_lease.specs.Keyed.{keyed};
 
 use std::alloc::{AllocError, Global};
 use std::collections::BTreeMap;
+use std::collections::btree_map::Iter;
 use std::marker::Model;
 
 /// Values at keys, seen as the table of them.
@@ -54,6 +58,16 @@ impl<V> ByteMap<V> {
         ensures { result ≡ is_held self.now key.now }
     {
         self.map.contains_key(key)
+    }
+}
+
+impl<V> ByteMap<V> {
+    /// Each key with its value, in the order of the keys.
+    pub fn iter(&self) -> Iter<'_, Vec<u8>, V>
+        ensures entries { keyed result ≡ self.now }
+        ensures sorted { IsStrictlySortedBy by_bytes (keys_of self.now) }
+    {
+        self.map.iter()
     }
 }
 

@@ -24,7 +24,7 @@ impl ByteMap<Positive> {
     pub fn has_due(&self, moment: u64) -> bool
         ensures { result ≡ has_due moment self.now }
     {
-        for (_, expiry) in &self.map {
+        for (_, expiry) in self.iter() {
             if expiry.get() <= moment {
                 return true;
             }
@@ -38,10 +38,7 @@ impl ByteMap<Positive> {
         ensures sorted { IfOk result (λ keys. IsStrictlySortedBy by_bytes keys) }
     {
         let mut keys = Vec::new(alloc);
-        if self.map.len() == 0 {
-            return Ok(Rows::of(keys));
-        }
-        for (key, expiry) in &self.map {
+        for (key, expiry) in self.iter() {
             if expiry.get() <= moment {
                 keys.push(Blob::of(alloc, key.as_slice())?)?;
             }
@@ -61,7 +58,7 @@ impl ByteMap<Positive> {
         ensures { IfOk result (λ rows. rows ≡ self.now) }
     {
         let mut rows = Vec::with_capacity(alloc, self.map.len())?;
-        for (key, expiry) in &self.map {
+        for (key, expiry) in self.iter() {
             rows.push(LeaseRow {
                 key: Blob::of(alloc, key.as_slice())?,
                 expiry: *expiry,

@@ -4,10 +4,12 @@
 mod byte_map;
 mod default_lease;
 mod expiries;
+mod laws;
 mod lease;
 mod snapshot;
 
 pub use byte_map::ByteMap;
 pub use default_lease::{DefaultLease, ReloadError};
+pub use laws::snapshot_words_are_read;
 pub use lease::Lease;
 pub use snapshot::{LeaseRow, LeaseSnapshot};
