@@ -96,25 +96,22 @@ weight_appended s es payload old new is appended =
     let same = ap length is in
     omega (arith, light, same, appended)
 
--- a region for which a file has no room
-pub weight_full : (s : MapState) (es : List LogEntry) (payload : List ℕ) (old needed limit : ℕ) → payload ≡ state_region_word (Records (all_recorded s es)) → 2 ^ 43 ≤ limit → limit < needed
-    → needed ≡ room_for old (length payload) → limit < 4 * (old + store_rise (entries_size es))
-weight_full s es payload old needed limit is least above room =
-    let light = light_region s es in
-    let same = ap length is in
-    let chunks = whole_above (old + 10 + length payload) in
-    omega (arith, light, same, least, above, room, chunks)
+pub light_payload : (s : MapState) (es : List LogEntry) (payload : List ℕ) → payload ≡ state_region_word (Records (all_recorded s es)) → length payload ≤ 128 + 4 * entries_size es
+light_payload s es payload is = let light = light_region s es in let same = ap length is in omega (arith, light, same)
 
-pub heavy_full : (s : MapState) (es : List LogEntry) (payload : List ℕ) (old most : ℕ) (memory fault : Type 0) (full : ℕ → ℕ → Type 0) (corrupt : Part → ℕ → Type 0) (e : GateError)
-    → payload ≡ state_region_word (Records (all_recorded s es)) → 2 ^ 43 ≤ most → ((needed limit : ℕ) → full needed limit → (needed ≡ room_for old (length payload)) × (limit ≡ most) × (limit < needed))
-    → Because memory fault full corrupt e → IsHeavy most (old + store_rise (entries_size es)) (state_error e)
-heavy_full s es payload old most memory fault full corrupt gate_error.OutOfMemory is least says h = tt
-heavy_full s es payload old most memory fault full corrupt gate_error.StorageIoError is least says h = tt
-heavy_full s es payload old most memory fault full corrupt (gate_error.Full needed limit) is least says h =
+-- a region for which a file has no room
+pub weight_full : (long old needed limit size : ℕ) → long ≤ 128 + 4 * size → 2 ^ 43 ≤ limit → limit < needed → needed ≡ room_for old long → limit < 4 * (old + store_rise size)
+weight_full long old needed limit size light least above room = let chunks = whole_above (old + 10 + long) in omega (arith, light, least, above, room, chunks)
+
+pub heavy_full : (long old most size : ℕ) (memory fault : Type 0) (full : ℕ → ℕ → Type 0) (corrupt : Part → ℕ → Type 0) (e : GateError) → long ≤ 128 + 4 * size → 2 ^ 43 ≤ most
+    → ((needed limit : ℕ) → full needed limit → (needed ≡ room_for old long) × (limit ≡ most) × (limit < needed)) → Because memory fault full corrupt e → IsHeavy most (old + store_rise size) (state_error e)
+heavy_full long old most size memory fault full corrupt gate_error.OutOfMemory light least says h = tt
+heavy_full long old most size memory fault full corrupt gate_error.StorageIoError light least says h = tt
+heavy_full long old most size memory fault full corrupt (gate_error.Full needed limit) light least says h =
     let f = says needed limit h in
     let below : most < needed = omega arith in
-    weight_full s es payload old needed most is least below f.0
-heavy_full s es payload old most memory fault full corrupt (gate_error.DataCorruption part offset) is least says h = tt
+    weight_full long old needed most size light least below f.0
+heavy_full long old most size memory fault full corrupt (gate_error.DataCorruption part offset) light least says h = tt
 
 -- ---- an opening
 

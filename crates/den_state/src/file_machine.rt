@@ -1,19 +1,18 @@
 //! The state machine in files.
-ghost use Rattle.std.specs.Prelude.{◌≡◌, ◌≤◌, ◌<◌, ◌↔◌, ◌+◌, ◌∷◌, ◌++◌, ℕ, List, [], false, None, Ok, Err, IsTrue, IfOk, IfErr, OnOk, length, option_map};
+ghost use Rattle.std.specs.Prelude.{◌≡◌, ◌≤◌, ◌<◌, ◌↔◌, ◌+◌, ◌*◌, ◌∷◌, ◌++◌, ℕ, List, [], true, false, None, Some, Ok, Err, IsTrue, IfOk, IfErr, OnOk, OnErr, length};
 ghost use Rattle.den_disk.specs.declared.place.Family.TheVariants.{State as state_family};
 ghost use Rattle.den_disk.specs.Goes.{Rose, DiskGoesOn};
 ghost use Rattle.den_disk.specs.Families.{SparesAll, SparesOthers, SparesImages, NoNewImages, OldOrNew};
 ghost use Rattle.den_model.specs.Image.{map_in};
-ghost use Rattle.den_model.specs.MapState.{map_applied_all, results_of, part_of};
-ghost use Rattle.den_model.specs.Apply.{value_at};
+ghost use Rattle.den_model.specs.MapState.{MapState, map_applied_all, map_after_payload, results_of};
 ghost use Rattle.den_model.specs.declared.region.StateRegion.TheVariants.{Records};
 ghost use Rattle.den_model.specs.Sizes.{entries_size, family_size, store_rise};
 ghost use Rattle.den_model.specs.Spelling.{state_region_word};
 ghost use Rattle.den_codec.specs.Full.{IsHeavy};
-ghost use Rattle.den_gate.specs.Gate.{payloads};
+ghost use Rattle.den_gate.specs.Gate.{payloads, IsAtRest, IsCurrent};
 ghost use Rattle.den_state.specs.Chunk.{out_of_order, asks_lease, IsChunkRefusal, LeavesOrEnds};
 ghost use Rattle.den_state.specs.Journal.{all_recorded};
-ghost use Rattle.den_state.specs.Machine.{IsReady, Rests, IsDurable, IsOpeningRefusal, OnUntouched, journaled, map_held, state_error};
+ghost use Rattle.den_state.specs.Machine.{IsReady, Lies, Keeps, Rests, IsConfiguredAs, IsDurable, IsOpeningRefusal, IsWriteRefusal, OnUntouched, journaled, map_held, stored_map, state_error};
 ghost use Rattle.den_state.specs.Laws.{rests_spared, held_own, rests_image};
 
 use crate::StateMachine;
@@ -29,9 +28,21 @@ use std::alloc::Global;
 #[derive(Drop)]
 pub struct FileStateMachine {
     alloc: Global,
-    gate: GateFile,
-    map: Map,
-    failed: bool,
+    pub(crate) gate: GateFile,
+    pub(crate) map: Map,
+    pub(crate) failed: bool,
+    /// The mark that the files hold.
+    pub(crate) stored: LogId,
+    pub(crate) leased: bool,
+    pub(crate) metadata: Option<SnapshotMetadata>,
+    pub(crate) running: bool,
+}
+
+/// What was last said of a snapshot: the last entry that it holds, where that was told, and a checksum.
+#[derive(Clone, Copy, Debug, PartialEq, Eq)]
+pub struct SnapshotMetadata {
+    pub last_included: Option<LogId>,
+    pub checksum: [u8; 32],
 }
 
 // A refusal of the State family's gate file.
@@ -64,6 +75,9 @@ impl FileStateMachine {
         ensures synced { IsTrue (D.kind disk.old).tells → IsDurable result (D.content disk.new) }
         ensures opened { IsTrue (D.kind disk.old).tells → IfOk result (λ s. map_in (D.content disk.old).reading ≡ Ok s.map) }
         ensures ready { IfOk result IsReady }
+        ensures lease { IfOk result (λ s. s.leased ≡ false) }
+        ensures metadata { IfOk result (λ s. s.metadata ≡ None) }
+        ensures running { IfOk result (λ s. s.running ≡ true) }
         ensures weight { IsTrue (D.kind disk.old).tells → IfOk result (λ s. s.gate.end ≡ family_size state_family (D.content disk.old).reading) }
         ensures rests { IsTrue (D.kind disk.old).tells → IfOk result (λ s. Rests s (D.content disk.new)) }
         ensures refused { IfErr result (IsOpeningRefusal (Rose (D.faults disk.old) (D.faults disk.new)) (D.kind disk.old).tells (D.content disk.old).reading) }
@@ -78,12 +92,19 @@ impl FileStateMachine {
         };
         let mut map = Map::at(alloc, LogId { index: 0, term: 0 });
         match map.add_list(alloc, list.as_slice()) {
-            Ok(()) => Ok(FileStateMachine {
-                alloc,
-                gate,
-                map,
-                failed: false,
-            }),
+            Ok(()) => {
+                let stored = map.mark();
+                Ok(FileStateMachine {
+                    alloc,
+                    gate,
+                    map,
+                    failed: false,
+                    stored,
+                    leased: false,
+                    metadata: None,
+                    running: true,
+                })
+            }
             Err(ListError::Memory) => Err(Error::OutOfMemory),
             Err(ListError::Unlawful { offset }) => Err(state_error(GateError::DataCorruption {
                 part: gate.part(),
@@ -92,14 +113,50 @@ impl FileStateMachine {
         }
     }
 
-    // Applies entries that are in order and have no time to live: one region of records, whatever becomes of it.
+    // Adds a region to the journal. Where that is refused it has failed. It takes no memory.
+    pub(crate) fn append<D: Disk>(&mut self, disk: &mut D, payload: &[u8]) -> Result<(), Error>
+        requires ready { (self.old).gate.failed ≡ false }
+        requires at_rest { IsTrue (D.kind disk.old).tells → IsAtRest (self.old).gate (D.content disk.old) }
+        requires current { IsTrue (D.kind disk.old).tells → IsCurrent (self.old).gate.slot (D.content disk.old) }
+        requires of_state { IsTrue (D.kind disk.old).tells → (self.old).gate.slot.family ≡ state_family }
+        ensures disk { DiskGoesOn D.kind D.moment D.images D.faults disk.old disk.new }
+        ensures own { IsTrue (D.kind disk.old).tells → (before next : MapState) → Lies (self.old).gate before (D.content disk.old) → map_after_payload before payload.now ≡ Some next
+            → OldOrNew map_held (D.images disk.new) (D.moment disk.old) (D.moment disk.new) before next }
+        ensures others { IsTrue (D.kind disk.old).tells → SparesImages state_family (D.images disk.old) (D.images disk.new) (D.moment disk.old) (D.moment disk.new) }
+        ensures spares { IsTrue (D.kind disk.old).tells → SparesOthers state_family (D.content disk.old) (D.content disk.new) }
+        ensures lies { OnOk result (IsTrue (D.kind disk.old).tells → (before next : MapState) → Lies (self.old).gate before (D.content disk.old) → map_after_payload before payload.now ≡ Some next
+            → Lies (self.new).gate next (D.content disk.new)) }
+        ensures appended { OnOk result (IsTrue (D.kind disk.old).tells →
+            payloads (self.new).gate (D.content disk.new).reading ≡ payloads (self.old).gate (D.content disk.old).reading ++ payload.now ∷ []) }
+        ensures end { OnOk result ((self.new).gate.end ≡ (self.old).gate.end + (9 + length payload.now)) }
+        ensures ready { OnOk result (IsReady self.new) }
+        ensures failed { OnErr result ((self.new).failed ≡ true) }
+        ensures rest { self.new ≡ record self.old { gate = (self.new).gate; failed = (self.new).failed } }
+        ensures refused { IfErr result (IsWriteRefusal ⊥ (Rose (D.faults disk.old) (D.faults disk.new)) (D.kind disk.old).limit) }
+        ensures heavy { IfErr result (λ e. (size : ℕ) → length payload.now ≤ 128 + 4 * size → IsHeavy (D.kind disk.old).limit ((self.old).gate.end + store_rise size) e) }
+    {
+        self.failed = true;
+        match self.gate.append(disk, payload) {
+            Ok(()) => {
+                self.failed = false;
+                Ok(())
+            }
+            Err(error) => {
+                let limit = disk.limit();
+                prove!(8_796_093_022_208 <= limit);
+                Err(state_error(error))
+            }
+        }
+    }
+
+    // Applies entries that are in order and may live as long as they ask: one region of records, whatever becomes of it.
     fn commit<D: Disk>(&mut self, disk: &mut D, chunk: &[Entry]) -> Result<Rows<ApplyResult>, Error>
         requires ready { IsReady self.old }
-        requires rests { IsTrue (D.kind disk.old).tells → Rests self.old (D.content disk.old) }
+        requires keeps { IsTrue (D.kind disk.old).tells → Keeps self.old (D.content disk.old) }
         requires in_order { out_of_order (self.old).map.mark.index chunk.now ≡ None }
-        requires lease { asks_lease chunk.now ≡ false }
+        requires some { 1 ≤ length chunk.now }
         ensures disk { DiskGoesOn D.kind D.moment D.images D.faults disk.old disk.new }
-        ensures own { IsTrue (D.kind disk.old).tells → OldOrNew map_held (D.images disk.new) (D.moment disk.old) (D.moment disk.new) (self.old).map (map_applied_all (self.old).map chunk.now) }
+        ensures own { IsTrue (D.kind disk.old).tells → OldOrNew map_held (D.images disk.new) (D.moment disk.old) (D.moment disk.new) (stored_map self.old) (map_applied_all (self.old).map chunk.now) }
         ensures others { IsTrue (D.kind disk.old).tells → SparesImages state_family (D.images disk.old) (D.images disk.new) (D.moment disk.old) (D.moment disk.new) }
         ensures spares { IsTrue (D.kind disk.old).tells → SparesOthers state_family (D.content disk.old) (D.content disk.new) }
         ensures applied { OnOk result ((self.new).map ≡ map_applied_all (self.old).map chunk.now) }
@@ -109,23 +166,16 @@ impl FileStateMachine {
         ensures rests { OnOk result (IsTrue (D.kind disk.old).tells → Rests self.new (D.content disk.new)) }
         ensures appended { OnOk result (IsTrue (D.kind disk.old).tells →
             payloads (self.new).gate (D.content disk.new).reading ≡ payloads (self.old).gate (D.content disk.old).reading ++ state_region_word (Records (all_recorded (self.old).map chunk.now)) ∷ []) }
-        ensures refused { IfErr result (IsChunkRefusal (Rose (D.faults disk.old) (D.faults disk.new)) (D.kind disk.old).limit (self.old).map.mark.index chunk.now) }
+        ensures same { IsConfiguredAs self.old self.new }
+        ensures failed { OnErr result ((self.new).failed ≡ true) }
+        ensures refused { IfErr result (IsWriteRefusal (Unit {0}) (Rose (D.faults disk.old) (D.faults disk.new)) (D.kind disk.old).limit) }
         ensures heavy { IfErr result (IsHeavy (D.kind disk.old).limit (self.old.gate.end + store_rise (entries_size chunk.now))) }
-        ensures failed { IfErr result (LeavesOrEnds ⊥ (IsReady self.new → ⊥)) }
     {
         self.failed = true;
         let journaled = self.map.journal(self.alloc, chunk)?;
-        match self.gate.append(disk, &journaled.payload) {
-            Ok(()) => {
-                self.failed = false;
-                Ok(Rows::of(journaled.results))
-            }
-            Err(error) => {
-                let limit = disk.limit();
-                prove!(8_796_093_022_208 <= limit);
-                Err(state_error(error))
-            }
-        }
+        self.append(disk, &journaled.payload)?;
+        self.stored = self.map.mark();
+        Ok(Rows::of(journaled.results))
     }
 
     /// How many pairs the map has.

@@ -7,5 +7,5 @@ mod fold;
 mod machine;
 mod map;
 
-pub use file_machine::FileStateMachine;
+pub use file_machine::{FileStateMachine, SnapshotMetadata};
 pub use machine::StateMachine;
