@@ -1,5 +1,5 @@
 -- What the calls of a state machine in files leave of its files.
-use Rattle.std.proofs.Common.{◌≡◌, inl, ◌↔◌, ℕ, ◌<◌, ◌^◌, IsTrue, Bool, List, [], ◌∷◌, ◌++◌, length, Some, Result, Err, refl, sym, ap, subst, ◌∙◌, arith}
+use Rattle.std.proofs.Common.{◌≡◌, inl, ◌↔◌, ℕ, ◌<◌, ◌^◌, IsTrue, Bool, List, [], ◌∷◌, ◌++◌, length, Some, Result, Ok, Err, OnOk, refl, sym, ap, subst, ◌∙◌, arith}
 use Rattle.den_disk.specs.declared.place.Family.{Family}
 use Rattle.den_disk.specs.declared.place.Family.TheVariants as family
 use Rattle.den_disk.specs.declared.place.Part.{Part}
@@ -75,6 +75,11 @@ keeps_rested s c r = record {
   files = subst (λ m. Lies s.gate m c) (stored_is s c r) r.files;
   below = let e = ap (λ (p : LogId). p.index) r.stored in omega (arith, e);
 }
+
+-- what two facts of a success give
+pub both_ok : {A B P Q R : Type 0} (r : Result A B) → (P → Q → R) → OnOk r P → OnOk r Q → OnOk r R
+both_ok (Ok x) gives p q = gives p q
+both_ok (Err e) gives p q = tt
 
 -- ---- an opening
 

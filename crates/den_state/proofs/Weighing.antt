@@ -1,5 +1,5 @@
 -- How much a journal's region weighs beside the entries that it is of.
-use Rattle.std.proofs.Common.{◌≡◌, ℕ, ◌+◌, ◌*◌, ◌^◌, ◌<◌, ◌≤◌, true, false, List, [], ◌∷◌, length, Option, Ok, refl, sym, ap, ◌∙◌, if◌then◌else◌, arith, length-append}
+use Rattle.std.proofs.Common.{◌≡◌, ℕ, ◌+◌, ◌*◌, ◌^◌, ◌<◌, ◌≤◌, true, false, List, [], ◌∷◌, ◌++◌, length, Option, Ok, refl, sym, ap, ◌∙◌, if◌then◌else◌, arith, length-append}
 use Rattle.std.specs.List.{flat_map}
 use Rattle.den_disk.specs.declared.place.Family.TheVariants as family
 use Rattle.den_disk.specs.declared.place.Part.{Part}
@@ -9,7 +9,7 @@ use Rattle.den_model.specs.declared.command.Command.{Command}
 use Rattle.den_model.specs.declared.command.Command.TheVariants as command
 use Rattle.den_model.specs.declared.journal.JournalRecord.{JournalRecord}
 use Rattle.den_model.specs.declared.journal.JournalRecord.TheVariants as journal
-use Rattle.den_model.specs.declared.region.StateRegion.TheVariants.{Records}
+use Rattle.den_model.specs.declared.region.StateRegion.TheVariants.{Records, Mark}
 use Rattle.den_model.specs.Apply.{succeeds}
 use Rattle.den_model.specs.Entries.{LogEntry}
 use Rattle.den_model.specs.Image.{slot_of}
@@ -95,6 +95,23 @@ weight_appended s es payload old new is appended =
     let light = light_region s es in
     let same = ap length is in
     omega (arith, light, same, appended)
+
+-- a region of one cleanup, and one of a mark
+pub light_cleanup : (moment : ℕ) (before payload : List ℕ) → before ≡ [] → payload ≡ before ++ state_region_word (Records (journal.Cleanup moment ∷ [])) → length payload ≤ 128
+light_cleanup moment before payload none is =
+    let whole = ap length (is ∙ ap (λ b. b ++ state_region_word (Records (journal.Cleanup moment ∷ []))) none) in
+    let word : length (state_region_word (Records (journal.Cleanup moment ∷ []))) ≡ 9 + length (flat_map record_word (journal.Cleanup moment ∷ [])) = length_list (journal.Cleanup moment ∷ []) in
+    let one : length (flat_map record_word (journal.Cleanup moment ∷ [])) ≡ length (record_word (journal.Cleanup moment)) + 0 = length-append (record_word (journal.Cleanup moment)) [] in
+    let fields : length (record_word (journal.Cleanup moment)) ≡ 41 + 0 + 0 = length_fields 0 0 6 [] [] moment in
+    omega (arith, whole, word, one, fields)
+
+length_mark : (index term : ℕ) → length (state_region_word (Mark index term)) ≡ 17
+length_mark index term = simp (length-append, length_u64_word) (omega arith)
+
+pub light_mark : (index term : ℕ) (before payload : List ℕ) → before ≡ [] → payload ≡ before ++ state_region_word (Mark index term) → length payload ≤ 128
+light_mark index term before payload none is =
+    let whole = ap length (is ∙ ap (λ b. b ++ state_region_word (Mark index term)) none) in
+    omega (arith, whole, length_mark index term)
 
 pub light_payload : (s : MapState) (es : List LogEntry) (payload : List ℕ) → payload ≡ state_region_word (Records (all_recorded s es)) → length payload ≤ 128 + 4 * entries_size es
 light_payload s es payload is = let light = light_region s es in let same = ap length is in omega (arith, light, same)

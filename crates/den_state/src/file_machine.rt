@@ -27,7 +27,7 @@ use std::alloc::Global;
 /// A map in memory, whose journal is the gate file of the State family.
 #[derive(Drop)]
 pub struct FileStateMachine {
-    alloc: Global,
+    pub(crate) alloc: Global,
     pub(crate) gate: GateFile,
     pub(crate) map: Map,
     pub(crate) failed: bool,
@@ -176,13 +176,6 @@ impl FileStateMachine {
         self.append(disk, &journaled.payload)?;
         self.stored = self.map.mark();
         Ok(Rows::of(journaled.results))
-    }
-
-    /// How many pairs the map has.
-    pub fn len(&self) -> usize
-        ensures { result ≡ length self.now.map.pairs }
-    {
-        self.map.len()
     }
 }
 

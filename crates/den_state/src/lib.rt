@@ -2,10 +2,13 @@
 #![tactic(auto)]
 
 mod chunk;
+mod cleanup;
 mod file_machine;
 mod fold;
+mod holding;
 mod machine;
 mod map;
+mod marks;
 
 pub use file_machine::{FileStateMachine, SnapshotMetadata};
 pub use machine::StateMachine;
