@@ -1,5 +1,5 @@
 -- What a cleanup removes, and that it removes nothing where nothing has expired.
-use Rattle.std.proofs.Common.{◌≡◌, ℕ, ◌<◌, Bool, true, false, not, cond, List, [], ◌∷◌, filter, map, Option, Some, None, refl, sym, ap, ◌∙◌, nat_le, nat_lt, if◌then◌else◌}
+use Rattle.std.proofs.Common.{◌≡◌, ℕ, Bool, true, false, not, cond, List, [], ◌∷◌, filter, map, Some, None, refl, ap, ◌∙◌, nat_le}
 use Rattle.std.specs.Prelude.{◌||◌, ◌&&◌}
 use Rattle.std.proofs.lemmas.Bool.{leb-false, lt-ltb}
 use Rattle.den_model.specs.declared.held.Held.{Held}
@@ -7,7 +7,7 @@ use Rattle.den_model.specs.Apply.{is_expired, kept_pairs, kept_expiries}
 use Rattle.den_model.specs.MapState.{MapState}
 use Rattle.den_model.specs.Table.{Table, is_same, at}
 use Rattle.den_lease.specs.Due.{due_keys, has_due}
-use Rattle.den_state.specs.Cleanup.{cleaned_map, cleaned_where, removed_where}
+use Rattle.den_state.specs.Cleanup.{cleaned_where, removed_where}
 
 neither : (a b : Bool) → (a || b) ≡ false → (a ≡ false) × (b ≡ false)
 neither false b e = (refl, e)

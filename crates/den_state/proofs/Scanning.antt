@@ -2,7 +2,6 @@
 use Rattle.std.proofs.Common.{◌≡◌, ℕ, List, [], ◌∷◌, map, refl, ap}
 use Rattle.std.specs.Map.{keys_of}
 use Rattle.den_model.specs.declared.held.Held.{Held}
-use Rattle.den_model.specs.declared.reply.KvEntry.{KvEntry}
 use Rattle.den_model.specs.Table.{Table}
 use Rattle.den_state.specs.Scan.{keys_in}
 

@@ -10,7 +10,7 @@ ghost use Rattle.den_model.specs.Sizes.{entries_size, family_size, store_rise};
 ghost use Rattle.den_model.specs.Spelling.{state_region_word};
 ghost use Rattle.den_codec.specs.Full.{IsHeavy};
 ghost use Rattle.den_gate.specs.Gate.{payloads, IsAtRest, IsCurrent};
-ghost use Rattle.den_state.specs.Chunk.{out_of_order, asks_lease, IsChunkRefusal, LeavesOrEnds};
+ghost use Rattle.den_state.specs.Chunk.{out_of_order, lacks_lease, IsChunkRefusal, LeavesOrEnds};
 ghost use Rattle.den_state.specs.Journal.{all_recorded};
 ghost use Rattle.den_state.specs.Machine.{IsReady, Lies, Keeps, Rests, IsConfiguredAs, IsDurable, IsOpeningRefusal, IsWriteRefusal, OnUntouched, journaled, map_held, stored_map, state_error};
 ghost use Rattle.den_state.specs.Laws.{rests_spared, held_own, rests_image};
@@ -177,6 +177,46 @@ impl FileStateMachine {
         self.stored = self.map.mark();
         Ok(Rows::of(journaled.results))
     }
+
+    /// Applies entries as `apply_chunk` does, also where the applied mark is not stored. A chunk that is refused for its order or for want of a lease leaves all as it was, as does one without entries.
+    /// Any other adds one region to the journal.
+    pub fn apply<D: Disk>(
+        &mut self,
+        disk: &mut D,
+        chunk: &[Entry],
+    ) -> Result<Rows<ApplyResult>, Error>
+        requires ready { IsReady self.old }
+        requires keeps { IsTrue (D.kind disk.old).tells → Keeps self.old (D.content disk.old) }
+        ensures disk { DiskGoesOn D.kind D.moment D.images D.faults disk.old disk.new }
+        ensures own { IsTrue (D.kind disk.old).tells → OldOrNew map_held (D.images disk.new) (D.moment disk.old) (D.moment disk.new) (stored_map self.old) (map_applied_all (self.old).map chunk.now) }
+        ensures others { IsTrue (D.kind disk.old).tells → SparesImages state_family (D.images disk.old) (D.images disk.new) (D.moment disk.old) (D.moment disk.new) }
+        ensures spares { IsTrue (D.kind disk.old).tells → SparesOthers state_family (D.content disk.old) (D.content disk.new) }
+        ensures applied { OnOk result ((self.new).map ≡ map_applied_all (self.old).map chunk.now) }
+        ensures results { IfOk result (λ results. results ≡ results_of (self.old).map chunk.now) }
+        ensures in_order { OnOk result ((out_of_order (self.old).map.mark.index chunk.now ≡ None) × (lacks_lease (self.old).leased chunk.now ≡ false)) }
+        ensures same { IsConfiguredAs self.old self.new }
+        ensures weight { OnOk result (self.new.gate.end ≤ self.old.gate.end + store_rise (entries_size chunk.now)) }
+        ensures ready { OnOk result (IsReady self.new) }
+        ensures rests { OnOk result (1 ≤ length chunk.now → IsTrue (D.kind disk.old).tells → Rests self.new (D.content disk.new)) }
+        ensures refused { IfErr result (IsChunkRefusal (self.old).leased (Rose (D.faults disk.old) (D.faults disk.new)) (D.kind disk.old).limit (self.old).map.mark.index chunk.now) }
+        ensures heavy { IfErr result (IsHeavy (D.kind disk.old).limit (self.old.gate.end + store_rise (entries_size chunk.now))) }
+        ensures failed { IfErr result (LeavesOrEnds ((self.new ≡ self.old) × (disk.new ≡ disk.old)) (IsReady self.new → ⊥)) }
+        ensures untouched { IfErr result (OnUntouched ((self.new ≡ self.old) × (disk.new ≡ disk.old))) }
+        ensures nothing { chunk.now ≡ [] → (self.new ≡ self.old) × (disk.new ≡ disk.old) }
+        ensures appended { OnOk result (IsTrue (D.kind disk.old).tells →
+            payloads (self.new).gate (D.content disk.new).reading ≡ payloads (self.old).gate (D.content disk.old).reading ++ journaled (self.old).map chunk.now) }
+    {
+        if let Some(index) = out_of_order(self.map.mark().index, chunk) {
+            return Err(Error::UnorderedChunk { index });
+        }
+        if !self.leased && asks_lease(chunk) {
+            return Err(Error::FeatureNotEnabled);
+        }
+        if chunk.is_empty() {
+            return Ok(Rows::of(Vec::new(self.alloc)));
+        }
+        self.commit(disk, chunk)
+    }
 }
 
 impl<D: Disk> StateMachine<D> for FileStateMachine {
@@ -187,6 +227,8 @@ impl<D: Disk> StateMachine<D> for FileStateMachine {
     ghost rests = { Rests };
 
     ghost ready = { IsReady };
+
+    ghost leased = { λ s. s.leased };
 
     /// The regions of its journal.
     ghost weight = { λ s. s.gate.end };
@@ -208,11 +250,12 @@ impl<D: Disk> StateMachine<D> for FileStateMachine {
         ensures spares { IsTrue (D.kind disk.old).tells → SparesOthers state_family (D.content disk.old) (D.content disk.new) }
         ensures applied { OnOk result ((self.new).map ≡ map_applied_all (self.old).map chunk.now) }
         ensures results { IfOk result (λ results. results ≡ results_of (self.old).map chunk.now) }
-        ensures in_order { OnOk result ((out_of_order (self.old).map.mark.index chunk.now ≡ None) × (asks_lease chunk.now ≡ false)) }
+        ensures in_order { OnOk result ((out_of_order (self.old).map.mark.index chunk.now ≡ None) × (lacks_lease (self.old).leased chunk.now ≡ false)) }
+        ensures lease { (self.new).leased ≡ (self.old).leased }
         ensures weight { OnOk result (self.new.gate.end ≤ self.old.gate.end + store_rise (entries_size chunk.now)) }
         ensures ready { OnOk result (IsReady self.new) }
         ensures rests { OnOk result (IsTrue (D.kind disk.old).tells → Rests self.new (D.content disk.new)) }
-        ensures refused { IfErr result (IsChunkRefusal (Rose (D.faults disk.old) (D.faults disk.new)) (D.kind disk.old).limit (self.old).map.mark.index chunk.now) }
+        ensures refused { IfErr result (IsChunkRefusal (self.old).leased (Rose (D.faults disk.old) (D.faults disk.new)) (D.kind disk.old).limit (self.old).map.mark.index chunk.now) }
         ensures heavy { IfErr result (IsHeavy (D.kind disk.old).limit (self.old.gate.end + store_rise (entries_size chunk.now))) }
         ensures failed { IfErr result (LeavesOrEnds ((self.new ≡ self.old) × (disk.new ≡ disk.old)) (IsReady self.new → ⊥)) }
         ensures untouched { IfErr result (OnUntouched ((self.new ≡ self.old) × (disk.new ≡ disk.old))) }
@@ -220,21 +263,16 @@ impl<D: Disk> StateMachine<D> for FileStateMachine {
         ensures appended { OnOk result (IsTrue (D.kind disk.old).tells →
             payloads (self.new).gate (D.content disk.new).reading ≡ payloads (self.old).gate (D.content disk.old).reading ++ journaled (self.old).map chunk.now) }
     {
-        if let Some(index) = out_of_order(self.map.mark().index, chunk) {
-            return Err(Error::UnorderedChunk { index });
-        }
-        if asks_lease(chunk) {
-            return Err(Error::FeatureNotEnabled);
-        }
-        if chunk.is_empty() {
-            return Ok(Rows::of(Vec::new(self.alloc)));
-        }
-        self.commit(disk, chunk)
+        self.apply(disk, chunk)
     }
 
     /// Whether a call failed after it had begun to change the map. It is opened anew then.
     fn is_failed(&self) -> bool {
         self.failed || self.gate.is_failed()
+    }
+
+    fn has_lease(&self) -> bool {
+        self.leased
     }
 
     fn holds_expiry(&self) -> bool {

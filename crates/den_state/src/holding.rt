@@ -55,15 +55,7 @@ impl FileStateMachine {
     /// Changes nothing: the expiries are in the state machine's files.
     pub fn load_lease_data(&mut self)
         ensures { self.new ≡ self.old }
-    {
-    }
-
-    /// Whether a lease is configured.
-    pub fn has_lease(&self) -> bool
-        ensures { result ≡ self.now.leased }
-    {
-        self.leased
-    }
+    {}
 
     pub fn start(&mut self)
         ensures { self.new ≡ record self.old { running = true } }

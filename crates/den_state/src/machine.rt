@@ -1,5 +1,5 @@
 //! What a state machine is.
-ghost use Rattle.std.specs.Prelude.{◌≡◌, ◌≤◌, ◌↔◌, ◌+◌, ℕ, true, false, IsTrue, Option, Some, None, OnOk, IfOk, IfErr, option_map};
+ghost use Rattle.std.specs.Prelude.{◌≡◌, ◌≤◌, ◌↔◌, ◌+◌, ℕ, Bool, true, false, IsTrue, Option, Some, None, OnOk, IfOk, IfErr, option_map};
 ghost use Rattle.den_disk.specs.declared.place.Family.TheVariants.{State as state_family};
 ghost use Rattle.den_disk.specs.Files.{Files, Content, IsImage};
 ghost use Rattle.den_disk.specs.Goes.{Rose, DiskGoesOn};
@@ -9,7 +9,7 @@ ghost use Rattle.den_model.specs.MapState.{MapState, map_applied_all, results_of
 ghost use Rattle.den_model.specs.Apply.{value_at};
 ghost use Rattle.den_model.specs.Sizes.{entries_size, store_rise};
 ghost use Rattle.den_codec.specs.Full.{IsHeavy};
-ghost use Rattle.den_state.specs.Chunk.{out_of_order, asks_lease, has_expiry, IsChunkRefusal, LeavesOrEnds};
+ghost use Rattle.den_state.specs.Chunk.{out_of_order, lacks_lease, has_expiry, IsChunkRefusal, LeavesOrEnds};
 
 use den_codec::{ApplyResult, Blob, Entry, Error, LogId, Rows};
 use den_disk::Disk;
@@ -28,6 +28,9 @@ pub trait StateMachine<D: Disk>: Drop {
     /// It has not failed.
     ghost ready: { Self → Type 0 };
 
+    /// Whether a lease is configured.
+    ghost leased: { Self → Bool };
+
     /// A number of bytes: what its files and the calls since it was opened handed it, at most. A disk is told to be full
     /// only where four times the weight is above the limit of a file.
     ghost weight: { Self → ℕ };
@@ -44,17 +47,22 @@ pub trait StateMachine<D: Disk>: Drop {
         ensures spares { IsTrue (D.kind disk.old).tells → SparesOthers state_family (D.content disk.old) (D.content disk.new) }
         ensures applied { OnOk result (map self.new ≡ map_applied_all (map self.old) chunk.now) }
         ensures results { IfOk result (λ results. results ≡ results_of (map self.old) chunk.now) }
-        ensures in_order { OnOk result ((out_of_order (map self.old).mark.index chunk.now ≡ None) × (asks_lease chunk.now ≡ false)) }
+        ensures in_order { OnOk result ((out_of_order (map self.old).mark.index chunk.now ≡ None) × (lacks_lease (leased self.old) chunk.now ≡ false)) }
+        ensures lease { leased self.new ≡ leased self.old }
         ensures weight { OnOk result (weight self.new ≤ weight self.old + store_rise (entries_size chunk.now)) }
         ensures ready { OnOk result (ready self.new) }
         ensures rests { OnOk result (IsTrue (D.kind disk.old).tells → rests self.new (D.content disk.new)) }
-        ensures refused { IfErr result (λ e. IsChunkRefusal (Rose (D.faults disk.old) (D.faults disk.new)) (D.kind disk.old).limit (map self.old).mark.index chunk.now e) }
+        ensures refused { IfErr result (λ e. IsChunkRefusal (leased self.old) (Rose (D.faults disk.old) (D.faults disk.new)) (D.kind disk.old).limit (map self.old).mark.index chunk.now e) }
         ensures heavy { IfErr result (IsHeavy (D.kind disk.old).limit (weight self.old + store_rise (entries_size chunk.now))) }
         ensures failed { IfErr result (LeavesOrEnds ((self.new ≡ self.old) × (disk.new ≡ disk.old)) (ready self.new → ⊥)) };
 
     /// Whether a refusal left it of no more use. It is opened anew then.
     fn is_failed(&self) -> bool
         ensures { (result ≡ false) ↔ ready self.now };
+
+    /// Whether a lease is configured.
+    fn has_lease(&self) -> bool
+        ensures { result ≡ leased self.now };
 
     /// Whether a key has an expiry.
     fn holds_expiry(&self) -> bool

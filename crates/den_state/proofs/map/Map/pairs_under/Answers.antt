@@ -1,11 +1,10 @@
-use Rattle.std.proofs.Common.{◌≡◌, ℕ, List, filter, map, sym, ap, subst, ◌∙◌, arith}
-use Rattle.std.specs.Map.{keys_of}
+use Rattle.std.proofs.Common.{◌≡◌, ℕ, List, filter, sym, ap, subst, ◌∙◌, arith}
 use Rattle.std.specs.List.Sorted.{IsStrictlySortedBy}
 use Rattle.std.proofs.lemmas.Grind.{common_steps}
 use Rattle.den_model.specs.declared.held.Held.{Held}
 use Rattle.den_model.specs.MapState.{MapState}
 use Rattle.den_model.specs.Step.{begins_with, pairs_under}
-use Rattle.den_model.specs.Table.{Table, by_bytes}
+use Rattle.den_model.specs.Table.{by_bytes}
 use Rattle.den_lease.proofs.Rising.{IsSorted, sorted_filter}
 use Rattle.den_state.specs.Scan.{keys_in}
 use Rattle.den_state.proofs.Scanning.{keys_of_pairs}
