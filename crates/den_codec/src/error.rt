@@ -35,8 +35,9 @@ pub enum Error {
     UnorderedChunk { index: u64 },
     #[error("bad configuration")]
     Config(ConfigPlace),
-    #[error("folder is not empty")]
-    NotEmpty,
+    /// The bytes are no word of a state machine's part.
+    #[error("state machine error")]
+    StateMachineError,
 }
 
 impl From<AllocError> for Error {

@@ -7,7 +7,7 @@ use Rattle.den_model.specs.declared.request.Frame.{Frame}
 use Rattle.den_model.specs.Crash.{Survives, Stands, IsWhole, IsDone, IsServed}
 use Rattle.den_model.specs.Kv.{Durable, Kv}
 use Rattle.den_model.specs.Plan.{after, output, opening, turns, plan}
-use Rattle.den_model.specs.Step.{Step, Cleanup, moment_of}
+use Rattle.den_model.specs.Step.{Cleanup, moment_of}
 use Rattle.den_core.proofs.FramesSoFar.{turns_none}
 use Rattle.den_core.proofs.Lists.{added_is, added_none, added_twice, extends_by}
 use Rattle.den_core.proofs.Stretch.{goes_on, whole_twice}

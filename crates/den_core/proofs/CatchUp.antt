@@ -10,7 +10,7 @@ use Rattle.den_model.specs.Image.{durable, term_of, run_from, applied_all}
 use Rattle.den_model.specs.Kv.{Durable}
 use Rattle.den_model.specs.Log.{Log, floor, above, between, last_index, last_of}
 use Rattle.den_model.specs.MapState.{MapState, map_applied, map_applied_all}
-use Rattle.den_state.specs.Chunk.{asks_lease, out_of_order}
+use Rattle.den_state.specs.Chunk.{asks_lease, has_expiry, out_of_order}
 use Rattle.den_store.specs.Order.{IsInOrder}
 use Rattle.den_core.specs.Joined.{durable_is, found_is}
 use Rattle.den_core.specs.Opening.{agrees, is_exhausted, opening_refusal, refusal_by, refusal_for, IsLeft, IsOpeningFailure}
@@ -173,14 +173,15 @@ unfolding durable
 durable_by l h s es are = ap (λ x. if nat_le (floor l) s.mark.index && run_from (s.mark.index + 1) x then Some (applied_all (durable_of h s) x) else None) are
 
 pub refusal_is : (place : ℕ) (l : Log) (h : Option HardState) (s : MapState) (es : List LogEntry) → above s.mark.index l.entries ≡ es
-    → opening_refusal place l h s ≡ refusal_by place (agrees l s.mark.index es) (asks_lease es) ((term_of h == 2 ^ 64 - 1) || (last_of s.mark.index es == 2 ^ 64 - 1))
+    → opening_refusal place l h s ≡ refusal_by place (agrees l s.mark.index es) (has_expiry s || asks_lease es) ((term_of h == 2 ^ 64 - 1) || (last_of s.mark.index es == 2 ^ 64 - 1))
 refusal_is place l h s es are =
     let ends = ends_of (durable_of h s) es in
-    ap (λ x. refusal_for place (asks_lease x) (durable l h s)) are
-    ∙ ap (refusal_for place (asks_lease es)) (durable_by l h s es are)
-    ∙ refusal_at place (agrees l s.mark.index es) (asks_lease es) (applied_all (durable_of h s) es)
-    ∙ ap (λ n. refusal_by place (agrees l s.mark.index es) (asks_lease es) ((n == 2 ^ 64 - 1) || ((applied_all (durable_of h s) es).last_index == 2 ^ 64 - 1))) ends.0
-    ∙ ap (λ n. refusal_by place (agrees l s.mark.index es) (asks_lease es) ((term_of h == 2 ^ 64 - 1) || (n == 2 ^ 64 - 1))) ends.1
+    let lease = has_expiry s || asks_lease es in
+    ap (λ x. refusal_for place (has_expiry s || asks_lease x) (durable l h s)) are
+    ∙ ap (refusal_for place lease) (durable_by l h s es are)
+    ∙ refusal_at place (agrees l s.mark.index es) lease (applied_all (durable_of h s) es)
+    ∙ ap (λ n. refusal_by place (agrees l s.mark.index es) lease ((n == 2 ^ 64 - 1) || ((applied_all (durable_of h s) es).last_index == 2 ^ 64 - 1))) ends.0
+    ∙ ap (λ n. refusal_by place (agrees l s.mark.index es) lease ((term_of h == 2 ^ 64 - 1) || (n == 2 ^ 64 - 1))) ends.1
 
 -- where nothing is
 unrefused : (place : ℕ) (agree lease exhausted : Bool) → refusal_by place agree lease exhausted ≡ None → (agree ≡ true) × (lease ≡ false)
@@ -188,25 +189,35 @@ unrefused place true false exhausted none = (refl, refl)
 unrefused place true true exhausted none = cc
 unrefused place false lease exhausted none = cc
 
-module _ (place : ℕ) (l : Log) (h : Option HardState) (s : MapState) (mark : ℕ) (es : List LogEntry) (result : Option Error) (is_mark : mark ≡ s.mark.index) (are : es ≡ above mark l.entries)
-    (is : result ≡ refusal_by place (agrees l mark es) (asks_lease es) ((term_of h == 2 ^ 64 - 1) || (last_of mark es == 2 ^ 64 - 1))) where
+-- neither of two holds
+neither : (a b : Bool) → (a || b) ≡ false → (a ≡ false) × (b ≡ false)
+neither false false none = (refl, refl)
+neither false true none = cc
+neither true b none = cc
+
+module _ (place : ℕ) (l : Log) (h : Option HardState) (s : MapState) (mark : ℕ) (es : List LogEntry) (lease : Bool) (result : Option Error) (is_mark : mark ≡ s.mark.index) (are : es ≡ above mark l.entries)
+    (is_lease : lease ≡ (has_expiry s || asks_lease es))
+    (is : result ≡ refusal_by place (agrees l mark es) lease ((term_of h == 2 ^ 64 - 1) || (last_of mark es == 2 ^ 64 - 1))) where
   here : above s.mark.index l.entries ≡ es
   here = ap (λ n. above n l.entries) (sym is_mark) ∙ sym are
 
-  same : refusal_by place (agrees l s.mark.index es) (asks_lease es) ((term_of h == 2 ^ 64 - 1) || (last_of s.mark.index es == 2 ^ 64 - 1)) ≡ result
-  same = ap (λ n. refusal_by place (agrees l n es) (asks_lease es) ((term_of h == 2 ^ 64 - 1) || (last_of n es == 2 ^ 64 - 1))) (sym is_mark) ∙ sym is
+  same : refusal_by place (agrees l s.mark.index es) (has_expiry s || asks_lease es) ((term_of h == 2 ^ 64 - 1) || (last_of s.mark.index es == 2 ^ 64 - 1)) ≡ result
+  same = ap (λ n. refusal_by place (agrees l n es) (has_expiry s || asks_lease es) ((term_of h == 2 ^ 64 - 1) || (last_of n es == 2 ^ 64 - 1))) (sym is_mark)
+      ∙ ap (λ b. refusal_by place (agrees l mark es) b ((term_of h == 2 ^ 64 - 1) || (last_of mark es == 2 ^ 64 - 1))) (sym is_lease) ∙ sym is
 
   pub refused_here : opening_refusal place l h s ≡ result
   refused_here = refusal_is place l h s es here ∙ same
 
+  free : result ≡ None → (agrees l s.mark.index es ≡ true) × ((has_expiry s || asks_lease es) ≡ false)
+  free none = unrefused place (agrees l s.mark.index es) (has_expiry s || asks_lease es) ((term_of h == 2 ^ 64 - 1) || (last_of s.mark.index es == 2 ^ 64 - 1)) (same ∙ none)
+
   pub left_here : result ≡ None → IsLeft l s es
   left_here none =
-      let free = unrefused place (agrees l s.mark.index es) (asks_lease es) ((term_of h == 2 ^ 64 - 1) || (last_of s.mark.index es == 2 ^ 64 - 1)) (same ∙ none) in
-      let two = both (nat_le (floor l) s.mark.index) (run_from (s.mark.index + 1) es) free.0 in
+      let two = both (nat_le (floor l) s.mark.index) (run_from (s.mark.index + 1) es) (free none).0 in
       record { purged = leb-true (floor l) s.mark.index two.0; are = here; run = two.1 }
 
   pub free_here : result ≡ None → asks_lease es ≡ false
-  free_here none = (unrefused place (agrees l s.mark.index es) (asks_lease es) ((term_of h == 2 ^ 64 - 1) || (last_of s.mark.index es == 2 ^ 64 - 1)) (same ∙ none)).1
+  free_here none = (neither (has_expiry s) (asks_lease es) (free none).1).1
 
 pub none_some : {X : Type 0} (o : Option X) → o ≡ None → IsSome o → ⊥
 none_some None none some = cc

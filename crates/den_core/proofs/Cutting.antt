@@ -1,5 +1,5 @@
 -- Reads into a buffer, and the first frame of a stream.
-use Rattle.std.proofs.Common.{◌≡◌, ℕ, ◌≤◌, ◌<◌, ◌+◌, ◌-◌, Bool, true, false, inl, inr, List, [], ◌++◌, length, take, drop, refl, sym, ◌∙◌, ap, subst, arith, IsTrue, Ok, length-append, replicate, nat_eq}
+use Rattle.std.proofs.Common.{◌≡◌, ℕ, ◌≤◌, ◌<◌, ◌+◌, ◌-◌, Bool, true, false, inl, inr, List, [], ◌++◌, length, take, drop, sym, ◌∙◌, ap, subst, arith, IsTrue, Ok, length-append, replicate, nat_eq}
 use Rattle.std.proofs.lemmas.Bool.{cases_lt, eq-eqb, ne_eqb}
 use Rattle.std.proofs.lemmas.List.{take-append-drop, take-append-le, length-take-le, length-drop, drop-drop, take_all, take_at, drop_all, append-nil}
 use Rattle.std.proofs.Math.Seq.{take-append-add}
@@ -44,6 +44,10 @@ module _ {L : Type 0} (tells : L → Bool) (left : L → List ℕ) (sent : L →
         counted = counted ∙ omega (arith, one.counted);
         could = λ some. omega (arith, one.counted, on.limit);
       }
+
+-- what is left no more was taken
+pub counted_more : (before now : ℕ) (left rest : List ℕ) (n : ℕ) → n ≤ length left → rest ≡ drop n left → now ≡ before + n → now + length rest ≡ before + length left
+counted_more before now left rest n fits is taken = omega (arith, ap length is, length-drop n left)
 
 -- what a read gave
 pub got_sized : (piece : Piece) (n room : ℕ) → piece ≡ Got n → IsSized piece room → (0 < n) × (n ≤ room)

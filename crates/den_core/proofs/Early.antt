@@ -1,10 +1,9 @@
 -- Why a reply may not go before its step.
-use Rattle.std.proofs.Common.{◌≡◌, ℕ, zero, suc, ◌≤◌, List, [], ◌∷◌, ◌++◌, length, take, Option, Some, refl, sym, ◌∙◌, ap, arith}
-use Rattle.std.proofs.lemmas.Bool.{le-leb}
+use Rattle.std.proofs.Common.{◌≡◌, ℕ, zero, suc, ◌≤◌, List, [], ◌∷◌, ◌++◌, take, Option, Some, refl, sym, ◌∙◌, ap, arith}
 use Rattle.den_core.specs.Early.{EarlyIsRefused}
 use Rattle.den_disk.specs.Files.{Files}
 use Rattle.den_disk.specs.Goes.{IsPrefix, stamped}
-use Rattle.den_model.specs.Crash.{Survives, SentWithin, sent_by}
+use Rattle.den_model.specs.Crash.{Survives, sent_by}
 use Rattle.den_model.specs.Kv.{Durable, Kv}
 use Rattle.den_model.specs.Plan.{after, output}
 use Rattle.den_model.specs.Step.{Step}

@@ -1,8 +1,8 @@
 -- Two calls in a row.
-use Rattle.std.proofs.Common.{◌≡◌, ℕ, ◌+◌, ◌≤◌, Bool, IsTrue, List, ◌∷◌, ◌++◌, [], Option, Some, None, Result, Ok, Err, OnOk, refl, sym, ◌∙◌, ap, subst, arith}
+use Rattle.std.proofs.Common.{◌≡◌, ℕ, Bool, IsTrue, List, ◌∷◌, ◌++◌, [], Option, Some, None, Result, Ok, Err, OnOk, refl, sym, ◌∙◌, ap, subst, arith}
 use Rattle.std.proofs.lemmas.List.{append-nil}
 use Rattle.den_disk.specs.Files.{Files, Kind}
-use Rattle.den_disk.specs.Goes.{Rose, DiskGoesOn, LinkGoesOn, ClockGoesOn}
+use Rattle.den_disk.specs.Goes.{DiskGoesOn, LinkGoesOn, ClockGoesOn}
 use Rattle.den_model.specs.declared.request.Frame.{Frame}
 use Rattle.den_model.specs.Frames.{frames}
 use Rattle.den_core.specs.Input.{Found}

@@ -12,3 +12,4 @@ pub mod Lists
 pub mod Beginning
 pub mod Sending
 pub mod Stretch
+pub mod Weighing

@@ -5,7 +5,6 @@ use Rattle.std.specs.List.{flat_map}
 use Rattle.std.proofs.lemmas.List.{append-nil, map-append, take_more, take-append-drop, take_all, length-drop}
 use Rattle.std.proofs.lemmas.Grind.{flat_map-append}
 use Rattle.den_disk.specs.Goes.{IsPrefix, stamped}
-use Rattle.den_model.specs.declared.reply.Reply.{Reply}
 use Rattle.den_model.specs.declared.reply.WatchEvent.{WatchEvent}
 use Rattle.den_model.specs.Spelling.{u64_word, event_word}
 use Rattle.den_model.specs.Frames.{framed}

@@ -60,6 +60,10 @@ apart_own own mine old new apart spares = record {
   pending = λ q is k new_pending. spares.pending q (λ same. apart (sym is ∙ same)) k new_pending;
 }
 
+-- a family's files are the same over two calls
+pub same_twice : (mine : Family) (one two three : Files) → SameOf mine one two → SameOf mine two three → SameOf mine one three
+same_twice mine one two three first second q is = second q is ∙ first q is
+
 pub joined_is : (a : Option Log) (b : Option (Option HardState)) (c : Option MapState) (l : Log) (h : Option HardState) (s : MapState)
     → a ≡ Some l → b ≡ Some h → c ≡ Some s → joined a b c ≡ durable l h s
 joined_is a b c l h s p q r = ap (λ x. joined x b c) p ∙ ap (λ y. joined (Some l) y c) q ∙ ap (λ z. joined (Some l) (Some h) z) r

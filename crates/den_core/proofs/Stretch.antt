@@ -1,5 +1,5 @@
 -- How one stretch of a run goes on into the next.
-use Rattle.std.proofs.Common.{◌⊎◌, ◌↔◌, refl, ◌≡◌, ⊎_elim, ℕ, ◌≤◌, ◌+◌, List, [], ◌++◌, length, take, Option, Some, sym, ◌∙◌, ap, subst, arith, append_assoc, length-append}
+use Rattle.std.proofs.Common.{◌↔◌, ◌≡◌, ⊎_elim, ℕ, ◌≤◌, ◌+◌, List, [], ◌++◌, length, take, Option, Some, sym, ◌∙◌, ap, subst, arith, append_assoc, length-append}
 use Rattle.std.proofs.lemmas.Bool.{cases_lt}
 use Rattle.std.proofs.lemmas.List.{append-nil, take-append-le, take_all}
 use Rattle.std.proofs.Math.Seq.{take-append-add}

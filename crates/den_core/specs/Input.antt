@@ -1,8 +1,9 @@
 -- What is read of a link.
 use Rattle.std.specs.Prelude.{◌≡◌, ◌⊎◌, ℕ, ◌+◌, ◌<◌, ◌≤◌, Bool, true, false, IsTrue, List, [], ◌∷◌, ◌++◌, length, take, drop, Option, Some, None}
 use Rattle.den_model.specs.declared.request.Frame.{Frame}
-use Rattle.den_model.specs.declared.request.Frame.TheVariants.{Bad}
+use Rattle.den_model.specs.declared.request.Frame.TheVariants.{Good, Bad}
 use Rattle.den_model.specs.Frames.{frames, frame_of}
+use Rattle.den_model.specs.Sizes.{frame_size}
 
 -- so many bytes were taken, and nothing was sent
 pub record Took {L : Type 0} (tells : L → Bool) (left : L → List ℕ) (sent : L → List (ℕ × ℕ)) (budget taken : L → ℕ) (n : ℕ) (old new : L) : Type 0 where
@@ -27,3 +28,8 @@ IsBehind limit size left rest frame =
 abbrev pub Found : ℕ → List ℕ → List ℕ → Option Frame → Type 0
 Found limit left rest None = (left ≡ []) × (rest ≡ [])
 Found limit left rest (Some frame) = frames limit left ≡ frame ∷ frames limit rest
+
+-- so many bytes have a good frame's length and body among them
+abbrev pub HasCome : ℕ → Frame → Type 0
+HasCome taken Bad = Unit {0}
+HasCome taken (Good request) = 8 + frame_size (Good request) ≤ taken

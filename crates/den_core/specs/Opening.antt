@@ -8,22 +8,22 @@ use Rattle.den_model.specs.Entries.{LogEntry}
 use Rattle.den_model.specs.Kv.{Durable}
 use Rattle.den_model.specs.Log.{Log, above, floor}
 use Rattle.den_model.specs.MapState.{MapState}
-use Rattle.den_state.specs.Chunk.{asks_lease}
+use Rattle.den_state.specs.Chunk.{asks_lease, has_expiry}
 use Rattle.den_store.specs.Causes.{IsRefusal}
 
 -- no term or no index is left
 abbrev pub is_exhausted : Durable → Bool
 is_exhausted d = (d.term == 2 ^ 64 - 1) || (d.last_index == 2 ^ 64 - 1)
 
--- A log in this file and a map that disagree; then an entry to apply that has a time to live, where no lease is
--- configured; then a term or an index that is exhausted.
+-- A log in this file and a map that disagree; then a key with an expiry or an entry to apply that has a time to live,
+-- where no lease is configured; then a term or an index that is exhausted.
 abbrev pub refusal_for : ℕ → Bool → Option Durable → Option Error
 refusal_for place lease None = Some (DataCorruption place 0)
 refusal_for place lease (Some d) = if lease then Some FeatureNotEnabled else if is_exhausted d then Some ProposeFailed else None
 
 -- what opening refuses of these three
 abbrev pub opening_refusal : ℕ → Log → Option HardState → MapState → Option Error
-opening_refusal place l h s = refusal_for place (asks_lease (above s.mark.index l.entries)) (durable l h s)
+opening_refusal place l h s = refusal_for place (has_expiry s || asks_lease (above s.mark.index l.entries)) (durable l h s)
 
 -- whether the log's entries go on behind this index without a gap
 abbrev pub agrees : Log → ℕ → List LogEntry → Bool

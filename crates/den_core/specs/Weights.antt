@@ -1,8 +1,12 @@
 -- How much heavier the steps of an engine make it.
-use Rattle.std.specs.Prelude.{ℕ, ◌+◌, ◌*◌}
+use Rattle.std.specs.Prelude.{ℕ, ◌+◌, ◌*◌, length}
+use Rattle.den_model.specs.declared.command.Command.{Command}
 use Rattle.den_model.specs.declared.request.Frame.{Frame}
 use Rattle.den_model.specs.declared.request.Frame.TheVariants.{Good, Bad}
-use Rattle.den_model.specs.Sizes.{frame_size, step_rise}
+use Rattle.den_model.specs.Sizes.{frame_size, step_rise, store_rise}
+use Rattle.den_model.specs.Spelling.{command_word}
+use Rattle.den_core.specs.declared.ask.Asked.{Asked}
+use Rattle.den_core.specs.declared.ask.Asked.TheVariants.{Commit, Say}
 
 -- a frame that is bad writes nothing
 abbrev pub frame_rise : Frame → ℕ
@@ -13,6 +17,23 @@ frame_rise (Good request) = step_rise (frame_size (Good request))
 abbrev pub opening_rise : ℕ
 opening_rise = 4096
 
--- what a run comes to that began with this weight and took so many bytes
+-- what an engine comes to that began with this weight, by frames of so many bytes
+abbrev pub served_weight : (weight taken : ℕ) → ℕ
+served_weight weight taken = weight + 256 * taken
+
+-- what a run comes to, its opening with it
 abbrev pub run_weight : (weight taken : ℕ) → ℕ
 run_weight weight taken = weight + opening_rise + 256 * taken
+
+-- a hard state's word has at most 21 bytes
+abbrev pub raise_rise : ℕ
+raise_rise = store_rise 21
+
+-- a command's entry is handed to the log and to the map: index, term and moment have 24 bytes
+abbrev pub commit_rise : Command → ℕ
+commit_rise command = 2 * store_rise (24 + length (command_word command))
+
+-- what a frame comes to
+abbrev pub asked_rise : Asked → ℕ
+asked_rise (Commit command) = commit_rise command
+asked_rise (Say reply) = 0

@@ -1,5 +1,5 @@
 //! What a frame asks for, before anything is done.
-ghost use Rattle.std.specs.Prelude.{◌≡◌, ℕ, List, Option, IfOk, IfErr, Some, None, filter_map, option_map};
+ghost use Rattle.std.specs.Prelude.{◌≡◌, ◌≤◌, ℕ, List, Option, IfOk, IfErr, Some, None, filter_map, option_map};
 ghost use Rattle.den_codec.specs.declared.error.Error.TheVariants.{OutOfMemory};
 ghost use Rattle.den_model.specs.Kv.{Durable, Kv};
 ghost use Rattle.den_model.specs.Step.{answer, answered, command_of, failed, has_ttl, pair_at, write};
@@ -7,6 +7,7 @@ ghost use Rattle.den_model.specs.MapState.{part_of};
 ghost use Rattle.den_model.specs.Frames.{IsBuiltFrame};
 ghost use Rattle.den_core.specs.Asked.{outcome_of, HasRoom};
 ghost use Rattle.den_core.specs.Parts.{IsPlain};
+ghost use Rattle.den_core.specs.Weights.{asked_rise, commit_rise, frame_rise};
 
 use den_codec::{
     Blob, ClientResponse, ClientResponsePayload, Command, Error, ErrorCode, Frame, KvEntry,
@@ -90,6 +91,7 @@ fn ask_write(running: &Running, last_index: u64, command: Command) -> Asked
     ensures asked { (d : Durable) (moment : ℕ) → d.last_index ≡ last_index
         → write (record { durable = d; running = running.now }) moment command ≡ outcome_of (record { durable = d; running = running.now }) moment result }
     ensures room { HasRoom last_index result }
+    ensures rise { asked_rise result ≤ commit_rise command }
 {
     if has_ttl(&command) && !running.setting.lease {
         return Asked::Say(Reply::Refused(Refusal::FeatureNotEnabled));
@@ -145,6 +147,7 @@ pub(crate) fn ask<D: Disk, M: StateMachine<D>>(
         → answer (record { durable = part_of (M.map state.now) term; running = running.now }) moment frame
         ≡ outcome_of (record { durable = part_of (M.map state.now) term; running = running.now }) moment asked) }
     ensures room { IfOk result (λ asked. HasRoom (M.map state.now).mark.index asked) }
+    ensures rise { IfOk result (λ asked. asked_rise asked ≤ frame_rise frame) }
     ensures refused { IfErr result (λ e. e ≡ OutOfMemory) }
 {
     let request = match frame {

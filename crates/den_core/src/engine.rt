@@ -1,6 +1,7 @@
 //! The engine: the next entry into the log and onto the map, and the answer.
 ghost use Rattle.std.specs.Prelude.{◌≡◌, ◌<◌, ◌≤◌, ◌^◌, ◌-◌, ◌+◌, ℕ, IsTrue, List, [], ◌∷◌, Option, Some, OnOk, IfOk, IfErr, false};
-ghost use Rattle.den_disk.specs.Families.{OldOrNew};
+ghost use Rattle.den_disk.specs.declared.place.Family.TheVariants.{Snapshot as snapshot_family};
+ghost use Rattle.den_disk.specs.Families.{OldOrNew, SameOf};
 ghost use Rattle.den_disk.specs.Files.{Files, Content, IsImage};
 ghost use Rattle.den_disk.specs.Goes.{Rose, DiskGoesOn};
 ghost use Rattle.den_model.specs.Apply.{applied, succeeds};
@@ -9,7 +10,9 @@ ghost use Rattle.den_model.specs.Image.{joined, term_of};
 ghost use Rattle.den_model.specs.Kv.{Durable, Kv};
 ghost use Rattle.den_model.specs.Step.{answer, has_ttl, next_entry, put_through};
 ghost use Rattle.den_store.specs.Causes.{IsRefusal};
+ghost use Rattle.den_codec.specs.Full.{IsHeavy};
 ghost use Rattle.den_core.specs.Parts.{durable_of, kv_of, raised_of, vote_of, IsCaughtUp, IsPlain, IsReady, AllRest};
+ghost use Rattle.den_core.specs.Weights.{commit_rise, frame_rise, raise_rise};
 
 use crate::ask::{Asked, answered, ask};
 use crate::{StepOut, Stepper};
@@ -51,6 +54,7 @@ impl<G, T, M> Engine<G, T, M> {
         requires plain { IsPlain running }
         ensures kv { ⟦<Engine<G, T, M> as Stepper<D>>⟧.kv result ≡ kv_of (T.hard_state meta) (M.map state) running }
         ensures ready { ⟦<Engine<G, T, M> as Stepper<D>>⟧.ready result }
+        ensures weight { ⟦<Engine<G, T, M> as Stepper<D>>⟧.weight result ≡ G.weight log + T.weight meta + M.weight state }
         ensures rests { (content : Content) → AllRest (G.rests log content) (T.rests meta content) (M.rests state content)
             → ⟦<Engine<G, T, M> as Stepper<D>>⟧.rests result content }
     {
@@ -95,6 +99,7 @@ fn raise<D: Disk, G: LogStore<D>, T: MetaStore<D>, M: StateMachine<D>>(
         (T.rests engine.old.meta (D.content disk.old)) (M.rests engine.old.state (D.content disk.old)) }
     requires room { term_of (T.hard_state engine.old.meta) < 2 ^ 64 - 1 }
     ensures disk { DiskGoesOn D.kind D.moment D.images D.faults disk.old disk.new }
+    ensures snapshot { IsTrue (D.kind disk.old).tells → SameOf snapshot_family (D.content disk.old).reading (D.content disk.new).reading }
     ensures moves { IsTrue (D.kind disk.old).tells
         → OldOrNew (λ files. joined (G.holds files) (T.holds files) (M.holds files)) (D.images disk.new) (D.moment disk.old) (D.moment disk.new)
         (durable_of (T.hard_state engine.old.meta) (M.map engine.old.state))
@@ -107,7 +112,10 @@ fn raise<D: Disk, G: LogStore<D>, T: MetaStore<D>, M: StateMachine<D>>(
         (G.log engine.new.log) (M.map engine.new.state) engine.new.running) }
     ensures rests { OnOk result (IsTrue (D.kind disk.old).tells → AllRest (G.rests engine.new.log (D.content disk.new))
         (T.rests engine.new.meta (D.content disk.new)) (M.rests engine.new.state (D.content disk.new))) }
+    ensures weight { OnOk result (G.weight engine.new.log + T.weight engine.new.meta + M.weight engine.new.state
+        ≤ G.weight engine.old.log + T.weight engine.old.meta + M.weight engine.old.state + raise_rise) }
     ensures refused { IfErr result (λ e. IsRefusal (Rose (D.faults disk.old) (D.faults disk.new)) (D.kind disk.old).limit e) }
+    ensures heavy { IfErr result (IsHeavy (D.kind disk.old).limit (G.weight engine.old.log + T.weight engine.old.meta + M.weight engine.old.state + raise_rise)) }
 {
     let term = current_term::<D, T>(&engine.meta) + 1;
     let raised = HardState {
@@ -132,6 +140,7 @@ fn commit<D: Disk, G: LogStore<D>, T: MetaStore<D>, M: StateMachine<D>>(
     requires moment { 1 ≤ moment }
     requires no_ttl { has_ttl command ≡ false }
     ensures disk { DiskGoesOn D.kind D.moment D.images D.faults disk.old disk.new }
+    ensures snapshot { IsTrue (D.kind disk.old).tells → SameOf snapshot_family (D.content disk.old).reading (D.content disk.new).reading }
     ensures moves { IsTrue (D.kind disk.old).tells
         → OldOrNew (λ files. joined (G.holds files) (T.holds files) (M.holds files)) (D.images disk.new) (D.moment disk.old) (D.moment disk.new)
         (durable_of (T.hard_state engine.old.meta) (M.map engine.old.state))
@@ -146,7 +155,10 @@ fn commit<D: Disk, G: LogStore<D>, T: MetaStore<D>, M: StateMachine<D>>(
         (G.log engine.new.log) (M.map engine.new.state) engine.new.running) }
     ensures rests { OnOk result (IsTrue (D.kind disk.old).tells → AllRest (G.rests engine.new.log (D.content disk.new))
         (T.rests engine.new.meta (D.content disk.new)) (M.rests engine.new.state (D.content disk.new))) }
+    ensures weight { OnOk result (G.weight engine.new.log + T.weight engine.new.meta + M.weight engine.new.state
+        ≤ G.weight engine.old.log + T.weight engine.old.meta + M.weight engine.old.state + commit_rise command) }
     ensures refused { IfErr result (λ e. IsRefusal (Rose (D.faults disk.old) (D.faults disk.new)) (D.kind disk.old).limit e) }
+    ensures heavy { IfErr result (IsHeavy (D.kind disk.old).limit (G.weight engine.old.log + T.weight engine.old.meta + M.weight engine.old.state + commit_rise command)) }
 {
     let index = engine.state.last_applied().index + 1;
     let term = current_term::<D, T>(&engine.meta);
@@ -170,6 +182,7 @@ fn answer<D: Disk, G: LogStore<D>, T: MetaStore<D>, M: StateMachine<D>>(
     requires moment { 1 ≤ moment }
     requires built { IsBuiltFrame frame }
     ensures disk { DiskGoesOn D.kind D.moment D.images D.faults disk.old disk.new }
+    ensures snapshot { IsTrue (D.kind disk.old).tells → SameOf snapshot_family (D.content disk.old).reading (D.content disk.new).reading }
     ensures moves { IsTrue (D.kind disk.old).tells
         → OldOrNew (λ files. joined (G.holds files) (T.holds files) (M.holds files)) (D.images disk.new) (D.moment disk.old) (D.moment disk.new)
         (durable_of (T.hard_state engine.old.meta) (M.map engine.old.state))
@@ -180,7 +193,10 @@ fn answer<D: Disk, G: LogStore<D>, T: MetaStore<D>, M: StateMachine<D>>(
         (G.log engine.new.log) (M.map engine.new.state) engine.new.running) }
     ensures rests { OnOk result (IsTrue (D.kind disk.old).tells → AllRest (G.rests engine.new.log (D.content disk.new))
         (T.rests engine.new.meta (D.content disk.new)) (M.rests engine.new.state (D.content disk.new))) }
+    ensures weight { OnOk result (G.weight engine.new.log + T.weight engine.new.meta + M.weight engine.new.state
+        ≤ G.weight engine.old.log + T.weight engine.old.meta + M.weight engine.old.state + frame_rise frame) }
     ensures refused { IfErr result (λ e. IsRefusal (Rose (D.faults disk.old) (D.faults disk.new)) (D.kind disk.old).limit e) }
+    ensures heavy { IfErr result (IsHeavy (D.kind disk.old).limit (G.weight engine.old.log + T.weight engine.old.meta + M.weight engine.old.state + frame_rise frame)) }
 {
     match ask::<D, M>(engine.alloc, &engine.state, &engine.running, frame)? {
         Asked::Commit(command) => {
@@ -201,6 +217,8 @@ impl<D: Disk, G: LogStore<D>, T: MetaStore<D>, M: StateMachine<D>> Stepper<D> fo
     ghost rests = { λ e content. AllRest (G.rests e.log content) (T.rests e.meta content) (M.rests e.state content) };
 
     ghost ready = { λ e. IsReady (G.ready e.log) (T.ready e.meta) (M.ready e.state) (G.log e.log) (M.map e.state) e.running };
+
+    ghost weight = { λ e. G.weight e.log + T.weight e.meta + M.weight e.state };
 
     ghost rests_hold = { λ e content files ready rests image. joined_here (G.holds files) (T.holds files) (M.holds files) (G.log e.log) (T.hard_state e.meta) (M.map e.state) ready.caught_up
         (G.rests_hold e.log content files ready.log rests.log image) (T.rests_hold e.meta content files ready.meta rests.meta image) (M.rests_hold e.state content files ready.state rests.state image) };

@@ -3,7 +3,8 @@ ghost use Rattle.std.specs.Prelude.{◌≡◌, ◌+◌, ◌-◌, ◌<◌, ◌≤
 ghost use Rattle.den_disk.specs.Goes.{Rose, LinkGoesOn};
 ghost use Rattle.den_model.specs.Frames.{frame_of, asked, IsBuiltFrame, is_built, is_built_operation};
 ghost use Rattle.den_model.specs.Reading.{request_in};
-ghost use Rattle.den_core.specs.Input.{Took, IsPiece, IsBehind, Found};
+ghost use Rattle.den_model.specs.Sizes.{frame_size};
+ghost use Rattle.den_core.specs.Input.{Took, IsPiece, IsBehind, Found, HasCome};
 ghost use Rattle.den_core.specs.Refusals.{IsLinkRefusal};
 
 use den_codec::{Error, Frame, Request, WriteOperation, read_request};
@@ -17,6 +18,7 @@ const PIECE: u64 = 65536;
 fn fill<L: Link>(link: &mut L, buf: &mut [u8]) -> Result<usize, LinkFault>
     ensures on { LinkGoesOn L.tells L.sent L.budget L.taken L.faults link.old link.new }
     ensures sent { IsTrue (L.tells link.old) → L.sent link.new ≡ L.sent link.old }
+    ensures counted { IsTrue (L.tells link.old) → L.taken link.new + length (L.left link.new) ≡ L.taken link.old + length (L.left link.old) }
     ensures took { IfOk result (λ n. Took L.tells L.left L.sent L.budget L.taken n link.old link.new) }
     ensures bytes { IfOk result (λ n. IsTrue (L.tells link.old) → take n buf.new ≡ take n (L.left link.old)) }
     ensures size { IfOk result (λ n. n ≤ length buf.new) }
@@ -37,6 +39,7 @@ fn fill<L: Link>(link: &mut L, buf: &mut [u8]) -> Result<usize, LinkFault>
 fn skip<L: Link>(link: &mut L, size: u64) -> Result<(), LinkFault>
     ensures on { LinkGoesOn L.tells L.sent L.budget L.taken L.faults link.old link.new }
     ensures sent { IsTrue (L.tells link.old) → L.sent link.new ≡ L.sent link.old }
+    ensures counted { IsTrue (L.tells link.old) → L.taken link.new + length (L.left link.new) ≡ L.taken link.old + length (L.left link.old) }
     ensures rest { OnOk result (IsTrue (L.tells link.old) → L.left link.new ≡ drop size (L.left link.old)) }
     ensures cause { OnErr result (Rose (L.faults link.old) (L.faults link.new)) }
 {
@@ -58,6 +61,9 @@ fn read_piece<L: Link>(link: &mut L, size: usize, body: &mut Vec<u8>) -> Result<
     requires { size ≤ 65536 }
     ensures on { LinkGoesOn L.tells L.sent L.budget L.taken L.faults link.old link.new }
     ensures sent { IsTrue (L.tells link.old) → L.sent link.new ≡ L.sent link.old }
+    ensures counted { IsTrue (L.tells link.old) → L.taken link.new + length (L.left link.new) ≡ L.taken link.old + length (L.left link.old) }
+    ensures taken { IfOk result (λ whole. IsTrue whole → L.taken link.new ≡ L.taken link.old + size) }
+    ensures size { OnOk result (vec_len body.new ≡ vec_len body.old + size) }
     ensures piece { IfOk result (λ whole. IsTrue (L.tells link.old) → IsPiece size (L.left link.old) (L.left link.new) body.old.items body.new.items whole) }
     ensures refused { IfErr result (λ e. IsLinkRefusal (Rose (L.faults link.old) (L.faults link.new)) e) }
 {
@@ -71,6 +77,9 @@ fn read_piece<L: Link>(link: &mut L, size: usize, body: &mut Vec<u8>) -> Result<
 fn read_body<L: Link>(link: &mut L, size: u64, body: &mut Vec<u8>) -> Result<bool, Error>
     ensures on { LinkGoesOn L.tells L.sent L.budget L.taken L.faults link.old link.new }
     ensures sent { IsTrue (L.tells link.old) → L.sent link.new ≡ L.sent link.old }
+    ensures counted { IsTrue (L.tells link.old) → L.taken link.new + length (L.left link.new) ≡ L.taken link.old + length (L.left link.old) }
+    ensures taken { IfOk result (λ whole. IsTrue whole → L.taken link.new ≡ L.taken link.old + size) }
+    ensures size { IfOk result (λ whole. IsTrue whole → vec_len body.new ≡ size) }
     ensures body { IfOk result (λ whole. IsTrue (L.tells link.old) → IsPiece size (L.left link.old) (L.left link.new) [] body.new.items whole) }
     ensures refused { IfErr result (λ e. IsLinkRefusal (Rose (L.faults link.old) (L.faults link.new)) e) }
 {
@@ -112,6 +121,7 @@ fn is_built(request: &Request) -> bool
 fn asked(alloc: Global, body: &[u8]) -> Result<Frame, AllocError>
     ensures is { IfOk result (λ frame. frame ≡ asked (request_in body.now)) }
     ensures built { IfOk result IsBuiltFrame }
+    ensures size { IfOk result (λ frame. frame_size frame ≤ length body.now) }
 {
     match read_request(alloc, body)? {
         Some(request) if is_built(&request) => Ok(Frame::Good(request)),
@@ -143,8 +153,10 @@ impl FrameReader {
     fn behind<L: Link>(&mut self, link: &mut L, size: u64) -> Result<Frame, Error>
         ensures on { LinkGoesOn L.tells L.sent L.budget L.taken L.faults link.old link.new }
         ensures sent { IsTrue (L.tells link.old) → L.sent link.new ≡ L.sent link.old }
+        ensures counted { IsTrue (L.tells link.old) → L.taken link.new + length (L.left link.new) ≡ L.taken link.old + length (L.left link.old) }
         ensures behind { IfOk result (λ frame. IsTrue (L.tells link.old) → IsBehind self.old.limit size (L.left link.old) (L.left link.new) frame) }
         ensures built { IfOk result IsBuiltFrame }
+        ensures size { IfOk result (λ frame. L.taken link.old + frame_size frame ≤ L.taken link.new) }
         ensures limit { self.new.limit ≡ self.old.limit }
         ensures refused { IfErr result (λ e. IsLinkRefusal (Rose (L.faults link.old) (L.faults link.new)) e) }
     {
@@ -162,8 +174,10 @@ impl FrameReader {
     pub fn next<L: Link>(&mut self, link: &mut L) -> Result<Option<Frame>, Error>
         ensures on { LinkGoesOn L.tells L.sent L.budget L.taken L.faults link.old link.new }
         ensures sent { IsTrue (L.tells link.old) → L.sent link.new ≡ L.sent link.old }
+        ensures counted { IsTrue (L.tells link.old) → L.taken link.new + length (L.left link.new) ≡ L.taken link.old + length (L.left link.old) }
         ensures found { IfOk result (λ found. IsTrue (L.tells link.old) → Found self.old.limit (L.left link.old) (L.left link.new) found) }
         ensures built { IfOk result (λ found. IfSome found IsBuiltFrame) }
+        ensures size { IfOk result (λ found. IfSome found (HasCome (L.taken link.new - L.taken link.old))) }
         ensures nearer { IfOk result (λ found. IsSome found → L.budget link.new - L.taken link.new < L.budget link.old - L.taken link.old) }
         ensures limit { self.new.limit ≡ self.old.limit }
         ensures refused { IfErr result (λ e. IsLinkRefusal (Rose (L.faults link.old) (L.faults link.new)) e) }

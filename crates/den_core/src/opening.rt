@@ -1,8 +1,9 @@
 //! The engine over stores as they were opened.
-ghost use Rattle.std.specs.Prelude.{◌≡◌, ◌==◌, ◌||◌, ◌^◌, ◌-◌, ◌+◌, ℕ, IsTrue, List, [], Option, Some, None, OnOk, IfOk, IfErr, IsSome, IfNone, ◌<◌, true, false};
+ghost use Rattle.std.specs.Prelude.{◌≡◌, ◌==◌, ◌||◌, ◌^◌, ◌-◌, ◌+◌, ℕ, IsTrue, List, [], Option, Some, None, OnOk, IfOk, IfErr, IsSome, IfNone, ◌<◌, ◌≤◌, true, false};
 ghost use Rattle.den_codec.specs.declared.error.Error.TheVariants.{OutOfMemory};
-ghost use Rattle.den_disk.specs.declared.place.Family.TheVariants.{State as state_family};
-ghost use Rattle.den_disk.specs.Families.{OldOrNew, SparesImages, SparesOthers};
+ghost use Rattle.den_codec.specs.Full.{IsHeavy};
+ghost use Rattle.den_disk.specs.declared.place.Family.TheVariants.{Snapshot as snapshot_family, State as state_family};
+ghost use Rattle.den_disk.specs.Families.{OldOrNew, SameOf, SparesImages, SparesOthers};
 ghost use Rattle.den_disk.specs.Files.{Files, Content};
 ghost use Rattle.den_disk.specs.Goes.{Rose, DiskGoesOn};
 ghost use Rattle.den_model.specs.Crash.{Survives};
@@ -10,7 +11,8 @@ ghost use Rattle.den_model.specs.Image.{durable, joined, run_from, term_of};
 ghost use Rattle.den_model.specs.Kv.{Durable};
 ghost use Rattle.den_model.specs.Log.{above, floor, last_of};
 ghost use Rattle.den_model.specs.MapState.{map_applied_all};
-ghost use Rattle.den_state.specs.Chunk.{asks_lease, out_of_order};
+ghost use Rattle.den_model.specs.Sizes.{entries_size, store_rise};
+ghost use Rattle.den_state.specs.Chunk.{asks_lease, has_expiry, out_of_order};
 ghost use Rattle.den_store.specs.Causes.{IsRefusal};
 ghost use Rattle.den_core.specs.Opening.{agrees, opening_refusal, refusal_by, IsLeft, IsOpeningFailure};
 ghost use Rattle.den_core.specs.Parts.{kv_of, IsPlain, AllRest};
@@ -48,6 +50,13 @@ fn asks_lease(entries: &[Entry]) -> bool
         }
     }
     false
+}
+
+/// Whether a key of the map has an expiry, or one of these entries sets one.
+fn needs_lease<D: Disk, M: StateMachine<D>>(state: &M, entries: &[Entry]) -> bool
+    ensures { result ≡ (has_expiry (M.map state.now) || asks_lease entries.now) }
+{
+    state.holds_expiry() || asks_lease(entries)
 }
 
 /// The index of the last entry, or this one.
@@ -97,14 +106,15 @@ fn is_exhausted(term: u64, last_index: u64) -> bool
     term == u64::MAX || last_index == u64::MAX
 }
 
-/// What opening refuses where these entries of the log are above the map's mark.
+/// What opening refuses where these entries of the log are above the map's mark, and a lease is needed or is not.
 fn refusal<D: Disk, G: LogStore<D>, T: MetaStore<D>>(
     log: &G,
     meta: &T,
     mark: u64,
     entries: &[Entry],
+    lease: bool,
 ) -> Option<Error>
-    ensures refusal { result ≡ refusal_by (G.place log.now) (agrees (G.log log.now) mark entries.now) (asks_lease entries.now)
+    ensures refusal { result ≡ refusal_by (G.place log.now) (agrees (G.log log.now) mark entries.now) lease
         ((term_of (T.hard_state meta.now) == 2 ^ 64 - 1) || (last_of mark entries.now == 2 ^ 64 - 1)) }
     ensures room { IfNone result ((term_of (T.hard_state meta.now) < 2 ^ 64 - 1) × (last_of mark entries.now < 2 ^ 64 - 1)) }
 {
@@ -114,7 +124,7 @@ fn refusal<D: Disk, G: LogStore<D>, T: MetaStore<D>>(
             offset: 0,
         });
     }
-    if asks_lease(entries) {
+    if lease {
         return Some(Error::FeatureNotEnabled);
     }
     if is_exhausted(current_term::<D, T>(meta), last_of(mark, entries)) {
@@ -140,7 +150,9 @@ fn apply_all<D: Disk, M: StateMachine<D>>(
     ensures applied { OnOk result (M.map state.new ≡ map_applied_all (M.map state.old) entries.now) }
     ensures ready { OnOk result (M.ready state.new) }
     ensures rests { OnOk result (IsTrue (D.kind disk.old).tells → M.rests state.new (D.content disk.new)) }
+    ensures weight { OnOk result (M.weight state.new ≤ M.weight state.old + store_rise (entries_size entries.now)) }
     ensures refused { IfErr result (λ e. IsRefusal (Rose (D.faults disk.old) (D.faults disk.new)) (D.kind disk.old).limit e) }
+    ensures heavy { IfErr result (IsHeavy (D.kind disk.old).limit (M.weight state.old + store_rise (entries_size entries.now))) }
 {
     if entries.is_empty() {
         return Ok(());
@@ -168,6 +180,7 @@ fn catch_up<D: Disk, G: LogStore<D>, T: MetaStore<D>, M: StateMachine<D>>(
     requires left { IsLeft (G.log log) (M.map state) entries.now }
     requires no_ttl { asks_lease entries.now ≡ false }
     ensures disk { DiskGoesOn D.kind D.moment D.images D.faults disk.old disk.new }
+    ensures snapshot { IsTrue (D.kind disk.old).tells → SameOf snapshot_family (D.content disk.old).reading (D.content disk.new).reading }
     ensures survives { (kept : Durable) → IsTrue (D.kind disk.old).tells → durable (G.log log) (T.hard_state meta) (M.map state) ≡ Some kept
         → Survives (λ files. joined (G.holds files) (T.holds files) (M.holds files)) (D.images disk.new) (D.moment disk.old) (D.moment disk.new) []
         (record { durable = kept; running = running }) [] }
@@ -175,7 +188,9 @@ fn catch_up<D: Disk, G: LogStore<D>, T: MetaStore<D>, M: StateMachine<D>>(
     ensures running { IfOk result (λ engine. (⟦<Engine<G, T, M> as Stepper<D>>⟧.kv engine).running ≡ running) }
     ensures ready { IfOk result (λ engine. ⟦<Engine<G, T, M> as Stepper<D>>⟧.ready engine) }
     ensures rests { IfOk result (λ engine. IsTrue (D.kind disk.old).tells → ⟦<Engine<G, T, M> as Stepper<D>>⟧.rests engine (D.content disk.new)) }
+    ensures weight { IfOk result (λ engine. ⟦<Engine<G, T, M> as Stepper<D>>⟧.weight engine ≤ G.weight log + T.weight meta + M.weight state + store_rise (entries_size entries.now)) }
     ensures refused { IfErr result (λ e. IsRefusal (Rose (D.faults disk.old) (D.faults disk.new)) (D.kind disk.old).limit e) }
+    ensures heavy { IfErr result (IsHeavy (D.kind disk.old).limit (G.weight log + T.weight meta + M.weight state + store_rise (entries_size entries.now))) }
 {
     let mut state = state;
     apply_all(&mut state, disk, entries)?;
@@ -183,8 +198,8 @@ fn catch_up<D: Disk, G: LogStore<D>, T: MetaStore<D>, M: StateMachine<D>>(
 }
 
 /// Brings stores together as they were opened: the log's entries above the map's mark are applied, which moves nothing
-/// that the files stand for. Where log and map disagree, where an entry to apply has a time to live, and where no term
-/// or index is left, it refuses, with nothing written.
+/// that the files stand for. Where log and map disagree, where a key has an expiry or an entry to apply a time to live,
+/// and where no term or index is left, it refuses, with nothing written.
 pub fn recover<D: Disk, G: LogStore<D>, T: MetaStore<D>, M: StateMachine<D>>(
     alloc: Global,
     disk: &mut D,
@@ -199,6 +214,7 @@ pub fn recover<D: Disk, G: LogStore<D>, T: MetaStore<D>, M: StateMachine<D>>(
     requires rests { IsTrue (D.kind disk.old).tells → AllRest (G.rests log (D.content disk.old)) (T.rests meta (D.content disk.old)) (M.rests state (D.content disk.old)) }
     requires plain { IsPlain running }
     ensures disk { DiskGoesOn D.kind D.moment D.images D.faults disk.old disk.new }
+    ensures snapshot { IsTrue (D.kind disk.old).tells → SameOf snapshot_family (D.content disk.old).reading (D.content disk.new).reading }
     ensures survives { (kept : Durable) → IsTrue (D.kind disk.old).tells → durable (G.log log) (T.hard_state meta) (M.map state) ≡ Some kept
         → Survives (λ files. joined (G.holds files) (T.holds files) (M.holds files)) (D.images disk.new) (D.moment disk.old) (D.moment disk.new) []
         (record { durable = kept; running = running }) [] }
@@ -208,15 +224,20 @@ pub fn recover<D: Disk, G: LogStore<D>, T: MetaStore<D>, M: StateMachine<D>>(
     ensures rests { IfOk result (λ engine. IsTrue (D.kind disk.old).tells → ⟦<Engine<G, T, M> as Stepper<D>>⟧.rests engine (D.content disk.new)) }
     ensures term { IfOk result (λ engine. (⟦<Engine<G, T, M> as Stepper<D>>⟧.kv engine).durable.term < 2 ^ 64 - 1) }
     ensures index { IfOk result (λ engine. (⟦<Engine<G, T, M> as Stepper<D>>⟧.kv engine).durable.last_index < 2 ^ 64 - 1) }
+    ensures weight { IfOk result (λ engine. ⟦<Engine<G, T, M> as Stepper<D>>⟧.weight engine
+        ≤ G.weight log + T.weight meta + M.weight state + store_rise (entries_size (above (M.map state).mark.index (G.log log).entries))) }
     ensures unrefused { OnOk result (opening_refusal (G.place log) (G.log log) (T.hard_state meta) (M.map state) ≡ None) }
     ensures refused { IfErr result (λ e. IsOpeningFailure (Rose (D.faults disk.old) (D.faults disk.new)) (D.kind disk.old).limit
         (opening_refusal (G.place log) (G.log log) (T.hard_state meta) (M.map state)) e) }
+    ensures heavy { IfErr result (IsHeavy (D.kind disk.old).limit
+        (G.weight log + T.weight meta + M.weight state + store_rise (entries_size (above (M.map state).mark.index (G.log log).entries)))) }
     ensures untouched { IsSome (opening_refusal (G.place log) (G.log log) (T.hard_state meta) (M.map state)) → disk.new ≡ disk.old }
 {
     let mark = state.last_applied().index;
     let found = entries_above::<D, G>(&log, mark)?;
     let entries = found.as_slice();
-    match refusal::<D, G, T>(&log, &meta, mark, entries) {
+    let lease = needs_lease::<D, M>(&state, entries);
+    match refusal::<D, G, T>(&log, &meta, mark, entries, lease) {
         Some(refused) => Err(refused),
         None => catch_up(alloc, disk, log, meta, state, running, entries),
     }

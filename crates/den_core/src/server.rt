@@ -1,5 +1,8 @@
 //! The loop that serves frames: each is a step, and what the step answers is sent behind it.
-ghost use Rattle.std.specs.Prelude.{◌≡◌, ◌<◌, ◌≤◌, ◌^◌, ◌-◌, ◌++◌, ℕ, List, drop, IsTrue, OnOk, IfErr, length, vec_len};
+ghost use Rattle.std.specs.Prelude.{◌≡◌, ◌<◌, ◌≤◌, ◌^◌, ◌+◌, ◌-◌, ◌++◌, ℕ, List, drop, IsTrue, OnOk, IfErr, length, vec_len};
+ghost use Rattle.den_codec.specs.Full.{IsHeavy};
+ghost use Rattle.den_disk.specs.declared.place.Family.TheVariants.{Snapshot as snapshot_family};
+ghost use Rattle.den_disk.specs.Families.{SameOf};
 ghost use Rattle.den_disk.specs.Goes.{Rose, IsPrefix, stamped, added, DiskGoesOn, LinkGoesOn, ClockGoesOn};
 ghost use Rattle.den_model.specs.Crash.{Survives, IsWhole, IsDone, IsServed, Tells};
 ghost use Rattle.den_model.specs.Frames.{framed, frames, IsBuiltFrame};
@@ -7,6 +10,7 @@ ghost use Rattle.den_model.specs.Plan.{turn, turns, plan};
 ghost use Rattle.den_core.specs.Answers.{frames_of};
 ghost use Rattle.den_core.specs.Early.{EarlyIsRefused};
 ghost use Rattle.den_core.specs.Refusals.{IsLinkRefusal, IsServeRefusal};
+ghost use Rattle.den_core.specs.Weights.{frame_rise, run_weight, served_weight};
 
 use crate::{FrameReader, StepOut, Stepper};
 use den_codec::{Error, Frame, Word};
@@ -42,6 +46,7 @@ fn send_frame<D: Disk, L: Link, W: Word>(
 ) -> Result<(), Error>
     ensures on { LinkGoesOn L.tells L.sent L.budget L.taken L.faults link.old link.new }
     ensures left { IsTrue (L.tells link.old) → L.left link.new ≡ L.left link.old }
+    ensures taken { L.taken link.new ≡ L.taken link.old }
     ensures all { OnOk result (IsTrue (L.tells link.old) → L.sent link.new ≡ L.sent link.old ++ stamped (framed (W.word value.now)) (D.moment disk.now)) }
     ensures front { IsTrue (L.tells link.old) → (front : List ℕ) × IsPrefix front (framed (W.word value.now))
         × (L.sent link.new ≡ L.sent link.old ++ stamped front (D.moment disk.now)) }
@@ -61,6 +66,7 @@ fn send_all<D: Disk, L: Link>(
 ) -> Result<(), Error>
     ensures on { LinkGoesOn L.tells L.sent L.budget L.taken L.faults link.old link.new }
     ensures left { IsTrue (L.tells link.old) → L.left link.new ≡ L.left link.old }
+    ensures taken { L.taken link.new ≡ L.taken link.old }
     ensures all { OnOk result (IsTrue (L.tells link.old) → L.sent link.new ≡ L.sent link.old ++ stamped (frames_of out.now.reply out.now.events) (D.moment disk.now)) }
     ensures front { IsTrue (L.tells link.old) → (front : List ℕ) × IsPrefix front (frames_of out.now.reply out.now.events)
         × (L.sent link.new ≡ L.sent link.old ++ stamped front (D.moment disk.now)) }
@@ -87,8 +93,10 @@ fn serve_frame<D: Disk, L: Link, S: Stepper<D>>(
     requires built { IsBuiltFrame frame }
     requires moment { 1 ≤ moment }
     ensures disk { DiskGoesOn D.kind D.moment D.images D.faults disk.old disk.new }
+    ensures snapshot { IsTrue (D.kind disk.old).tells → SameOf snapshot_family (D.content disk.old).reading (D.content disk.new).reading }
     ensures link { LinkGoesOn L.tells L.sent L.budget L.taken L.faults link.old link.new }
     ensures left { IsTrue (L.tells link.old) → L.left link.new ≡ L.left link.old }
+    ensures taken { L.taken link.new ≡ L.taken link.old }
     ensures survives { IsTrue (D.kind disk.old).tells → IsTrue (L.tells link.old)
         → Survives S.holds (D.images disk.new) (D.moment disk.old) (D.moment disk.new) (added (L.sent link.old) (L.sent link.new))
         (S.kv stepper.old) (turn (S.kv stepper.old) frame moment) }
@@ -96,7 +104,9 @@ fn serve_frame<D: Disk, L: Link, S: Stepper<D>>(
         → IsWhole (added (L.sent link.old) (L.sent link.new)) (S.kv stepper.old) (turn (S.kv stepper.old) frame moment) (S.kv stepper.new)) }
     ensures ready { OnOk result (S.ready stepper.new) }
     ensures rests { OnOk result (IsTrue (D.kind disk.old).tells → S.rests stepper.new (D.content disk.new)) }
+    ensures weight { OnOk result (S.weight stepper.new ≤ S.weight stepper.old + frame_rise frame) }
     ensures refused { IfErr result (λ e. IsServeRefusal (Rose (D.faults disk.old) (D.faults disk.new)) (Rose (L.faults link.old) (L.faults link.new)) (D.kind disk.old).limit e) }
+    ensures heavy { IfErr result (IsHeavy (D.kind disk.old).limit (S.weight stepper.old + frame_rise frame)) }
 {
     let out = stepper.step(disk, frame, moment)?;
     send_all(link, disk, &out, buffer)?;
@@ -115,8 +125,10 @@ pub fn serve<D: Disk, L: Link, C: Clock, S: Stepper<D>>(
     requires ready { S.ready stepper.old }
     requires rests { IsTrue (D.kind disk.old).tells → S.rests stepper.old (D.content disk.old) }
     ensures disk { DiskGoesOn D.kind D.moment D.images D.faults disk.old disk.new }
+    ensures snapshot { IsTrue (D.kind disk.old).tells → SameOf snapshot_family (D.content disk.old).reading (D.content disk.new).reading }
     ensures link { LinkGoesOn L.tells L.sent L.budget L.taken L.faults link.old link.new }
     ensures clock { ClockGoesOn C.tells C.readings clock.old clock.new }
+    ensures counted { IsTrue (L.tells link.old) → L.taken link.new + length (L.left link.new) ≡ L.taken link.old + length (L.left link.old) }
 
     // At every exit, and after a crash at any moment, the disk stands for the state after a prefix of the turns that
     // holds each step of which a byte was sent.
@@ -132,6 +144,7 @@ pub fn serve<D: Disk, L: Link, C: Clock, S: Stepper<D>>(
     ensures ready { OnOk result (S.ready stepper.new) }
     ensures rests { OnOk result (IsTrue (D.kind disk.old).tells → S.rests stepper.new (D.content disk.new)) }
     ensures refused { IfErr result (λ e. IsServeRefusal (Rose (D.faults disk.old) (D.faults disk.new)) (Rose (L.faults link.old) (L.faults link.new)) (D.kind disk.old).limit e) }
+    ensures heavy { IfErr result (IsHeavy (D.kind disk.old).limit (served_weight (S.weight stepper.old) (L.taken link.new - L.taken link.old))) }
 {
     let mut reader = FrameReader::new(alloc, limit);
     let mut buffer = Vec::new(alloc);
@@ -172,11 +185,14 @@ pub fn run_from<D: Disk, L: Link, C: Clock, S: Stepper<D>>(
         → Survives S.holds (D.images disk.new) (D.moment disk.old) (D.moment disk.new) (added (L.sent link.old) (L.sent link.new))
         (S.kv stepper.old) (plan (S.kv stepper.old) (frames limit (L.left link.old)) (added (C.readings clock.old) (C.readings clock.new))) }
     ensures disk { DiskGoesOn D.kind D.moment D.images D.faults disk.old disk.new }
+    ensures snapshot { IsTrue (D.kind disk.old).tells → SameOf snapshot_family (D.content disk.old).reading (D.content disk.new).reading }
     ensures link { LinkGoesOn L.tells L.sent L.budget L.taken L.faults link.old link.new }
     ensures clock { ClockGoesOn C.tells C.readings clock.old clock.new }
+    ensures counted { IsTrue (L.tells link.old) → L.taken link.new + length (L.left link.new) ≡ L.taken link.old + length (L.left link.old) }
     ensures ready { OnOk result (S.ready stepper.new) }
     ensures rests { OnOk result (IsTrue (D.kind disk.old).tells → S.rests stepper.new (D.content disk.new)) }
     ensures refused { IfErr result (λ e. IsServeRefusal (Rose (D.faults disk.old) (D.faults disk.new)) (Rose (L.faults link.old) (L.faults link.new)) (D.kind disk.old).limit e) }
+    ensures heavy { IfErr result (IsHeavy (D.kind disk.old).limit (run_weight (S.weight stepper.old) (L.taken link.new - L.taken link.old))) }
 {
     let moment = clock.now().max(1);
     stepper.open_at(disk, moment)?;

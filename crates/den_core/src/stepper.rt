@@ -1,5 +1,7 @@
 //! What the loop over frames sees of an engine.
 ghost use Rattle.std.specs.Prelude.{◌≡◌, ◌<◌, ◌≤◌, ◌^◌, ◌+◌, ◌-◌, ℕ, IsTrue, List, [], Option, Some, OnOk, IfOk, IfErr};
+ghost use Rattle.den_disk.specs.declared.place.Family.TheVariants.{Snapshot as snapshot_family};
+ghost use Rattle.den_disk.specs.Families.{SameOf};
 ghost use Rattle.den_disk.specs.Files.{Files, Content, IsImage};
 ghost use Rattle.den_disk.specs.Goes.{Rose, DiskGoesOn};
 ghost use Rattle.den_model.specs.Kv.{Durable, Kv};
@@ -47,6 +49,7 @@ pub trait Stepper<D: Disk>: Drop {
         requires term { (kv self.old).durable.term < 2 ^ 64 - 1 }
         requires index { (kv self.old).durable.last_index < 2 ^ 64 - 1 }
         ensures disk { DiskGoesOn D.kind D.moment D.images D.faults disk.old disk.new }
+        ensures snapshot { IsTrue (D.kind disk.old).tells → SameOf snapshot_family (D.content disk.old).reading (D.content disk.new).reading }
         ensures survives { IsTrue (D.kind disk.old).tells
             → Survives holds (D.images disk.new) (D.moment disk.old) (D.moment disk.new) [] (kv self.old) (opening (kv self.old) moment) }
         ensures state { OnOk result (kv self.new ≡ after (kv self.old) (opening (kv self.old) moment)) }
@@ -63,6 +66,7 @@ pub trait Stepper<D: Disk>: Drop {
         requires moment { 1 ≤ moment }
         requires built { IsBuiltFrame frame }
         ensures disk { DiskGoesOn D.kind D.moment D.images D.faults disk.old disk.new }
+        ensures snapshot { IsTrue (D.kind disk.old).tells → SameOf snapshot_family (D.content disk.old).reading (D.content disk.new).reading }
         ensures survives { IsTrue (D.kind disk.old).tells
             → Survives holds (D.images disk.new) (D.moment disk.old) (D.moment disk.new) [] (kv self.old) (turn (kv self.old) frame moment) }
         ensures state { OnOk result (kv self.new ≡ after (kv self.old) (turn (kv self.old) frame moment)) }

@@ -23,7 +23,7 @@ pub fn add<D: Disk>(disk: &mut D, slot: Place, end: u64, payload: &[u8]) -> Resu
     ensures run { IsTrue (D.kind disk.old).tells → (list : List (List ℕ)) → IsOpen slot list end (D.content disk.old)
         → RunKeepsOrAdds D.content D.moment D.images slot list payload.now disk.old disk.new }
     ensures refused { IfErr result (Because ⊥ (Rose (D.faults disk.old) (D.faults disk.new)) (λ needed limit.
-        (needed ≡ room_for end (length payload.now)) × (limit ≡ (D.kind disk.old).limit) × (limit < needed)
+        (needed ≡ room_for end (length payload.now)) × (limit ≡ (D.kind disk.old).limit) × (limit < needed) × (2 ^ 43 ≤ limit)
         × (IsTrue (D.kind disk.old).tells → IsShort ((D.content disk.old).reading slot) end (length payload.now) × Stays D.content D.moment D.images disk.old disk.new))
         (λ part offset. ⊥)) }
     ensures not_full { IsTrue (D.kind disk.old).tells → OnOk result (IsShort ((D.content disk.old).reading slot) end (length payload.now)

@@ -20,14 +20,13 @@ pub struct GateFile {
 }
 
 impl GateFile {
-    ghost use Rattle.std.specs.Prelude.{◌≡◌, ◌+◌, ◌<◌, ℕ, List, [], ◌∷◌, ◌++◌, true, false, Err, IsTrue, IsErrOf, IfErr, IfOk, OnOk, length};
+    ghost use Rattle.std.specs.Prelude.{◌≡◌, ◌+◌, ◌<◌, ℕ, List, [], ◌∷◌, ◌++◌, true, false, Err, IsTrue, IsErr, IfErr, IfOk, OnOk, length};
     ghost use Rattle.den_disk.specs.Files.{Files, Content};
     ghost use Rattle.den_disk.specs.Crash.{Leaves, Stays};
     ghost use Rattle.den_disk.specs.Goes.{DiskGoesOn, Rose};
     ghost use Rattle.den_disk.specs.Families.{SparesAll, SparesOthers, SparesImages, NoNewImages};
     ghost use Rattle.den_model.specs.Regions.{regions};
     ghost use Rattle.den_model.specs.Image.{slot_of};
-    ghost use Rattle.den_gate.specs.declared.error.GateError.TheVariants.{StorageIoError};
     ghost use Rattle.den_gate.specs.Causes.{Because};
     ghost use Rattle.den_gate.specs.Slot.{IsShort, room_for};
     ghost use Rattle.den_gate.specs.Steps.{Keeps, KeepsOrAdds, Spares};
@@ -97,16 +96,16 @@ impl GateFile {
         ensures slot { self.new.slot ≡ self.old.slot }
         ensures end { self.new.end ≡ self.old.end }
         ensures ready { OnOk result (self.new.failed ≡ false) }
-        ensures failed { IsErrOf result GateError.StorageIoError → self.new.failed ≡ true }
+        ensures failed { IsErr result → self.new.failed ≡ true }
         ensures refused { IfErr result (Because ⊥ (Rose (D.faults disk.old) (D.faults disk.new)) (λ needed limit.
-            (needed ≡ room_for self.old.end bytes) × (limit ≡ (D.kind disk.old).limit) × (limit < needed) × (self.new.failed ≡ false)
+            (needed ≡ room_for self.old.end bytes) × (limit ≡ (D.kind disk.old).limit) × (limit < needed) × (2 ^ 43 ≤ limit)
             × (IsTrue (D.kind disk.old).tells → IsShort ((D.content disk.old).reading self.old.slot) self.old.end bytes × Stays D.content D.moment D.images disk.old disk.new))
             (λ part offset. ⊥)) }
         ensures not_full { IsTrue (D.kind disk.old).tells → OnOk result (IsShort ((D.content disk.old).reading self.old.slot) self.old.end bytes
             → room_for self.old.end bytes ≤ (D.kind disk.old).limit) }
     {
         let made = make_room(disk, self.slot, self.end, bytes);
-        self.failed = matches!(made, Err(GateError::StorageIoError));
+        self.failed = made.is_err();
         made
     }
 
@@ -137,23 +136,41 @@ impl GateFile {
         ensures slot { self.new.slot ≡ self.old.slot }
         ensures end { OnOk result (self.new.end ≡ self.old.end + (9 + length payload.now)) }
         ensures ready { OnOk result (self.new.failed ≡ false) }
-        ensures failed { IsErrOf result GateError.StorageIoError → self.new.failed ≡ true }
+        ensures failed { IsErr result → self.new.failed ≡ true }
         ensures refused { IfErr result (Because ⊥ (Rose (D.faults disk.old) (D.faults disk.new)) (λ needed limit.
-            (needed ≡ room_for self.old.end (length payload.now)) × (limit ≡ (D.kind disk.old).limit) × (limit < needed)
-            × (self.new.end ≡ self.old.end) × (self.new.failed ≡ false)
+            (needed ≡ room_for self.old.end (length payload.now)) × (limit ≡ (D.kind disk.old).limit) × (limit < needed) × (2 ^ 43 ≤ limit)
+            × (self.new.end ≡ self.old.end)
             × (IsTrue (D.kind disk.old).tells → IsShort ((D.content disk.old).reading self.old.slot) self.old.end (length payload.now) × Stays D.content D.moment D.images disk.old disk.new))
             (λ part offset. ⊥)) }
         ensures not_full { IsTrue (D.kind disk.old).tells → OnOk result (IsShort ((D.content disk.old).reading self.old.slot) self.old.end (length payload.now)
             → room_for self.old.end (length payload.now) ≤ (D.kind disk.old).limit) }
     {
-        let added = add(disk, self.slot, self.end, payload);
-        self.failed = matches!(added, Err(GateError::StorageIoError));
-        added?;
+        self.failed = true;
+        add(disk, self.slot, self.end, payload)?;
+        self.failed = false;
         self.end += 9 + payload.len() as u64;
         Ok(())
     }
 
-    /// Whether the disk failed in a call that changes it. It is loaded anew then.
+    /// Puts all files on the disk. The list stays. It takes no memory.
+    pub fn flush<D: Disk>(&mut self, disk: &mut D) -> Result<(), GateError>
+        requires ready { self.old.failed ≡ false }
+        ensures disk { DiskGoesOn D.kind D.moment D.images D.faults disk.old disk.new }
+        ensures flushed { IsTrue (D.kind disk.old).tells → OnOk result ((D.content disk.new).pending ≡ []) }
+        ensures spares { IsTrue (D.kind disk.old).tells → SparesAll (D.content disk.old) (D.content disk.new) }
+        ensures images { IsTrue (D.kind disk.old).tells → NoNewImages (D.images disk.old) (D.images disk.new) (D.moment disk.old) (D.moment disk.new) }
+        ensures slot { self.new.slot ≡ self.old.slot }
+        ensures end { self.new.end ≡ self.old.end }
+        ensures ready { OnOk result (self.new.failed ≡ false) }
+        ensures failed { IsErr result → self.new.failed ≡ true }
+        ensures refused { IfErr result (Because ⊥ (Rose (D.faults disk.old) (D.faults disk.new)) (λ needed limit. ⊥) (λ part offset. ⊥)) }
+    {
+        let synced = disk.sync();
+        self.failed = synced.is_err();
+        Ok(synced?)
+    }
+
+    /// Whether a call that changes it was refused. It is loaded anew then.
     pub fn is_failed(&self) -> bool
         ensures { result ≡ self.now.failed }
     {

@@ -80,7 +80,7 @@ mod tests {
             limit: 8_796_093_022_208,
         };
         assert_eq!(rt; refused, Err(full));
-        assert!(rt; !gate.is_failed());
+        assert!(rt; gate.is_failed());
         assert_eq!(rt; read_front(&mut disk, &mut [])?, 0);
         Ok(())
     }

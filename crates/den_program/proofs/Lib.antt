@@ -1,1 +1,3 @@
-pub mod Statuses
+mod Lines
+mod Statuses
+mod Served

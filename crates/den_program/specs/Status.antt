@@ -1,24 +1,85 @@
 -- The program's exit status, and the line that goes with it.
-use Rattle.std.specs.Prelude.{◌==◌, ℕ, List, [], codes, Result, Ok, Err, if◌then◌else◌}
+use Rattle.std.specs.Prelude.{◌≡◌, ◌++◌, ◌==◌, ℕ, List, [], codes, decimal, Option, Some, None, Result, Ok, Err, if◌then◌else◌}
+use Rattle.den_disk.specs.Goes.{IsPrefix}
 use Rattle.den_codec.specs.declared.error.Error.{Error}
-use Rattle.den_codec.specs.declared.error.Error.TheVariants.{OutOfMemory, StorageIoError, DiskFull, LinkFault}
+use Rattle.den_codec.specs.declared.error.Error.TheVariants.{OutOfMemory, StorageIoError, DiskFull, LinkFault, DataCorruption, FeatureNotEnabled, ProposeFailed}
 
--- the status of a run's answer
-abbrev pub status_of : Result (Unit {0}) Error → ℕ
-status_of (Ok done) = 0
-status_of (Err OutOfMemory) = 1
-status_of (Err StorageIoError) = 5
-status_of (Err LinkFault) = 6
-status_of (Err (DiskFull needed limit)) = 7
-status_of (Err _) = 11
+abbrev pub status_of_error : Error → ℕ
+status_of_error OutOfMemory = 1
+status_of_error StorageIoError = 5
+status_of_error LinkFault = 6
+status_of_error (DiskFull needed limit) = 7
+status_of_error (DataCorruption place offset) = 8
+status_of_error FeatureNotEnabled = 9
+status_of_error ProposeFailed = 10
+status_of_error _ = 1
 
--- the line of each status, empty at 0
-abbrev pub line_of : ℕ → List ℕ
-line_of status =
+-- the status of a run's answer, or of words that do not parse
+abbrev pub status_of : Option (Result (Unit {0}) Error) → ℕ
+status_of None = 2
+status_of (Some (Ok done)) = 0
+status_of (Some (Err e)) = status_of_error e
+
+-- the name of the file of this number
+unfoldable pub file_name : ℕ → List ℕ
+file_name number =
+    if number == 0 then codes "log.head"
+    else if number == 1 then codes "log.a"
+    else if number == 2 then codes "log.b"
+    else if number == 3 then codes "meta.head"
+    else if number == 4 then codes "meta.a"
+    else if number == 5 then codes "meta.b"
+    else if number == 6 then codes "state.head"
+    else if number == 7 then codes "state.a"
+    else if number == 8 then codes "state.b"
+    else if number == 9 then codes "snapshot.head"
+    else if number == 10 then codes "snapshot.a"
+    else codes "snapshot.b"
+
+unfoldable pub corruption_front : (place : ℕ) → List ℕ
+corruption_front place = codes "den_server: data corruption in " ++ file_name place
+
+unfoldable pub corruption_end : (offset : ℕ) → List ℕ
+corruption_end offset = codes " at " ++ decimal offset ++ codes "\n"
+
+-- the line of a file that is corrupt at an offset
+abbrev pub corruption_line : (place offset : ℕ) → List ℕ
+corruption_line place offset = corruption_front place ++ corruption_end offset
+
+abbrev pub line_of_error : Error → List ℕ
+line_of_error OutOfMemory = codes "den_server: out of memory\n"
+line_of_error StorageIoError = codes "den_server: storage fault\n"
+line_of_error LinkFault = codes "den_server: link fault\n"
+line_of_error (DiskFull needed limit) = codes "den_server: disk limit reached\n"
+line_of_error (DataCorruption place offset) = corruption_line place offset
+line_of_error FeatureNotEnabled = codes "den_server: lease is not enabled\n"
+line_of_error ProposeFailed = codes "den_server: term or index exhausted\n"
+line_of_error _ = codes "den_server: out of memory\n"
+
+-- the line of a run's answer, or of words that do not parse; empty where all went well
+abbrev pub line_of : Option (Result (Unit {0}) Error) → List ℕ
+line_of None = codes "den_server: usage: den_server FOLDER [--config FILE] [--listen PORT] [--drive N]\n"
+line_of (Some (Ok done)) = []
+line_of (Some (Err e)) = line_of_error e
+
+-- the line of a status, that of 8 with this file and place
+abbrev pub status_line : (status place offset : ℕ) → List ℕ
+status_line status place offset =
     if status == 0 then []
-    else if status == 1 then codes "den_server: out of memory\n"
     else if status == 2 then codes "den_server: usage: den_server FOLDER [--config FILE] [--listen PORT] [--drive N]\n"
     else if status == 5 then codes "den_server: storage fault\n"
     else if status == 6 then codes "den_server: link fault\n"
     else if status == 7 then codes "den_server: disk limit reached\n"
-    else codes "den_server: folder is not empty\n"
+    else if status == 8 then corruption_line place offset
+    else if status == 9 then codes "den_server: lease is not enabled\n"
+    else if status == 10 then codes "den_server: term or index exhausted\n"
+    else codes "den_server: out of memory\n"
+
+-- an error whose line names no file
+abbrev pub IsFixed : Error → Type 0
+IsFixed (DataCorruption place offset) = ⊥
+IsFixed _ = Unit {0}
+
+-- a front of the line joined what was written
+abbrev pub IsWrittenFront : (line old new : List ℕ) → Type 0
+IsWrittenFront line old new = (front : List ℕ) × IsPrefix front line × (new ≡ old ++ front)

@@ -28,7 +28,7 @@ fn main(rt: HostRuntime) -> ExitCode {
     let alloc = rt.alloc();
     let words = match words_after_name(&rt, alloc) {
         Ok(words) => words,
-        Err(_) => Vec::new(alloc),
+        Err(_) => return ExitCode::from(1),
     };
     let mut conf = MemSource::new(Vec::new(alloc));
     let mut errs = StdSink::new(rt.stderr());

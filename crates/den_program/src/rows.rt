@@ -69,23 +69,71 @@ fn no_disk_call(rt: HostRuntime) -> Result<(), Fail> {
     Ok(())
 }
 
-#[test]
-fn not_empty(rt: HostRuntime) -> Result<(), Fail> {
-    let alloc = rt.alloc();
+// Files with these bytes in one place are refused with this status and line, and stay as they are.
+fn is_refused(
+    alloc: Global,
+    place: Place,
+    bytes: &[u8],
+    status: u8,
+    line: &[u8],
+) -> Result<bool, Fail> {
     let mut disk = MemDisk::new(alloc);
-    let place = Place {
-        family: Family::State,
-        part: Part::Head,
-    };
-    disk.set(place, b"x")?;
+    disk.set(place, bytes)?;
     let mut link = link_of(alloc)?;
     let mut errs = MemSink::new(alloc);
-    assert_eq!(rt; serve(alloc, &mut disk, &mut link, &mut errs)?, 11);
-    assert_eq!(rt; link.sent(), EMPTY);
-    assert_eq!(rt;
-        errs.bytes(),
-        b"den_server: folder is not empty\n".as_slice()
-    );
-    assert_eq!(rt; disk.get(place), b"x".as_slice());
+    let answer = serve(alloc, &mut disk, &mut link, &mut errs)?;
+    let told = answer == status && errs.bytes() == line;
+    Ok(told && link.sent().is_empty() && disk.get(place) == bytes)
+}
+
+// A log's region that runs past the end of its file.
+const CUT_REGION: &[u8] = b"\x01\0\0\0\0\0\0\0\x64";
+
+// A state region of one record: a put of a = b with an expiry of 2000.
+const STATE_WITH_EXPIRY: &[u8] =
+    b"\x01\0\0\0\0\0\0\0\x34\x03\0\0\0\0\0\0\0\x01\0\0\0\0\0\0\0\x01\0\0\0\0\0\0\0\x01\x01\0\0\0\0\0\0\0\x01a\0\0\0\0\0\0\0\x01b\0\0\0\0\0\0\x07\xd0";
+
+// A hard state of the last term, without a vote.
+const LAST_TERM: &[u8] = b"\x01\0\0\0\0\0\0\0\x09\xff\xff\xff\xff\xff\xff\xff\xff\0";
+
+#[test]
+fn refused_files(rt: HostRuntime) -> Result<(), Fail> {
+    let alloc = rt.alloc();
+    let cases: [(Family, &[u8], u8, &[u8]); 4] = [
+        (
+            Family::Log,
+            CUT_REGION,
+            8,
+            b"den_server: data corruption in log.a at 0\n",
+        ),
+        (
+            Family::State,
+            b"\x01\0\0\0\0\0\0\0\x01\x09",
+            8,
+            b"den_server: data corruption in state.a at 0\n",
+        ),
+        (
+            Family::State,
+            STATE_WITH_EXPIRY,
+            9,
+            b"den_server: lease is not enabled\n",
+        ),
+        (
+            Family::Meta,
+            LAST_TERM,
+            10,
+            b"den_server: term or index exhausted\n",
+        ),
+    ];
+    for (family, bytes, status, line) in cases {
+        let place = Place {
+            family,
+            part: Part::A,
+        };
+        assert!(rt;
+            is_refused(alloc, place, bytes, status, line)?,
+            "status {status}"
+        );
+    }
     Ok(())
 }

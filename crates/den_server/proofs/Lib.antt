@@ -1,4 +1,4 @@
-pub mod Folder
-pub mod Fresh
-pub mod Opened
-pub mod Runs
+pub mod Refused
+pub mod Settled
+pub mod Surviving
+pub mod Ended

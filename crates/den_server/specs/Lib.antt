@@ -1,3 +1,2 @@
 pub mod Causes
-pub mod Empty
-pub mod Fresh
+pub mod Opening

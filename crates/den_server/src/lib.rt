@@ -1,7 +1,6 @@
 //! The server: it opens the files of a folder and serves the frames of a link.
 #![tactic(auto)]
 
-mod empty;
 mod nodes;
 mod opening;
 #[cfg(test)]

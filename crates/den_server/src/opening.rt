@@ -1,26 +1,31 @@
 //! The stores of a folder, opened.
-ghost use Rattle.std.specs.Prelude.{◌≡◌, ◌<◌, ◌-◌, ◌^◌, true, [], IsTrue, IfOk, IfErr};
+ghost use Rattle.std.specs.Prelude.{◌≡◌, ◌<◌, ◌≤◌, ◌+◌, ◌*◌, ◌-◌, ◌^◌, [], Some, None, IsTrue, IsOk, IfOk, IfErr};
+ghost use Rattle.den_disk.specs.declared.place.Family.TheVariants.{Log as log_family};
+ghost use Rattle.den_disk.specs.Place.{place_number};
 ghost use Rattle.den_disk.specs.Goes.{Rose, DiskGoesOn};
-ghost use Rattle.den_model.specs.Crash.{Survives};
-ghost use Rattle.den_model.specs.Image.{durable_in};
-ghost use Rattle.den_model.specs.Kv.{nothing};
+ghost use Rattle.den_disk.specs.declared.place.Family.TheVariants.{Snapshot as snapshot_family};
+ghost use Rattle.den_disk.specs.Families.{SameOf, NoNewImages, SparesAll};
+ghost use Rattle.den_model.specs.Entries.{LogEntry};
+ghost use Rattle.den_model.specs.Image.{durable_in, slot_of};
+ghost use Rattle.den_model.specs.Kv.{Durable};
+ghost use Rattle.den_model.specs.Sizes.{entries_size, files_size, store_rise};
+ghost use Rattle.den_codec.specs.declared.error.Error.{Error};
 ghost use Rattle.den_codec.specs.declared.error.Error.TheVariants.{OutOfMemory};
+ghost use Rattle.den_codec.specs.Full.{IsHeavy};
 ghost use Rattle.den_codec.specs.Standard.{entered, running_of};
-ghost use Rattle.den_server.specs.Causes.{IsOpeningRefusal};
-ghost use Rattle.den_disk.specs.Families.{NoNewImages};
-ghost use Rattle.den_store.specs.FileLog.{file_log, IsLogReady, LogRests};
+ghost use Rattle.den_store.specs.FileLog.{file_log, file_place, IsLogReady, LogRests};
 ghost use Rattle.den_store.specs.FileMeta.{file_state, IsMetaReady, MetaRests};
 ghost use Rattle.den_state.specs.Machine.{IsReady, Rests};
 ghost use Rattle.den_core.specs.Parts.{AllRest};
-ghost use Rattle.den_server.specs.Empty.{is_folder_empty};
-ghost use Rattle.den_server.specs.Fresh.{AllReady, IsFresh};
+ghost use Rattle.den_server.specs.Causes.{IsOpeningRefusal, IsUnreadFolder};
+ghost use Rattle.den_server.specs.Opening.{refusal_in, AllReady, IsRead, IsUnwritten, Settles, SurvivesOpening, opened_weight};
 
 use crate::nodes::copy_nodes;
-use den_codec::{Error, RaftNodeConfig, Running, Setting};
+use den_codec::{Error, Label, RaftNodeConfig, Running, Setting};
 use den_core::{Engine, Stepper, recover};
 use den_disk::Disk;
 use den_state::FileStateMachine;
-use den_store::{FileLogStore, FileMetaStore};
+use den_store::{FileLogStore, FileMetaStore, FileStorageEngine, StorageEngine};
 use std::alloc::Global;
 
 /// An engine over the files of a folder.
@@ -48,50 +53,72 @@ struct Stores {
     state: FileStateMachine,
 }
 
-// Opens log, hard state and map, in this order.
-fn open_stores<D: Disk>(alloc: Global, disk: &mut D) -> Result<Stores, Error>
+// Opens log, hard state and map, in this order. Nothing is written.
+fn open_stores<D: Disk>(alloc: Global, disk: &mut D, data_dir: Label) -> Result<Stores, Error>
     ensures disk { DiskGoesOn D.kind D.moment D.images D.faults disk.old disk.new }
     ensures images { IsTrue (D.kind disk.old).tells → NoNewImages (D.images disk.old) (D.images disk.new) (D.moment disk.old) (D.moment disk.new) }
-    ensures fresh { IfOk result (λ s. IsTrue (D.kind disk.old).tells → is_folder_empty (D.content disk.old).reading ≡ true → IsFresh (file_log s.log) (file_state s.meta) s.state.map) }
+    ensures spares { IsTrue (D.kind disk.old).tells → SparesAll (D.content disk.old) (D.content disk.new) }
+    ensures settles { IsTrue (D.kind disk.old).tells → Settles (D.images disk.new) (D.moment disk.old) (D.moment disk.new) (IsOk result)
+        (D.content disk.new ≡ D.content disk.old) (D.content disk.old).reading }
+    ensures read { IfOk result (λ s. IsTrue (D.kind disk.old).tells → IsRead (D.content disk.old).reading (file_log s.log) (file_state s.meta) s.state.map) }
+    ensures place { IfOk result (λ s. IsTrue (D.kind disk.old).tells → file_place s.log ≡ place_number (slot_of log_family (D.content disk.old).reading)) }
+    ensures weight { IfOk result (λ s. IsTrue (D.kind disk.old).tells → s.log.gate.end + s.meta.gate.end + s.state.gate.end ≤ 768 + 4 * files_size (D.content disk.old).reading) }
+    ensures entries { IfOk result (λ s. IsTrue (D.kind disk.old).tells → entries_size (file_log s.log).entries ≤ files_size (D.content disk.old).reading) }
     ensures ready { IfOk result (λ s. AllReady (IsLogReady s.log) (IsMetaReady s.meta) (IsReady s.state)) }
     ensures rests { IfOk result (λ s. IsTrue (D.kind disk.old).tells → AllRest (LogRests s.log (D.content disk.new)) (MetaRests s.meta (D.content disk.new)) (Rests s.state (D.content disk.new))) }
-    ensures refused { IfErr result (λ e. IsOpeningRefusal (Rose (D.faults disk.old) (D.faults disk.new)) (D.kind disk.old).limit
-        (IsTrue (D.kind disk.old).tells × (is_folder_empty (D.content disk.old).reading ≡ true)) e) }
+    ensures refused { IfErr result (IsUnreadFolder (Rose (D.faults disk.old) (D.faults disk.new)) (IsTrue (D.kind disk.old).tells) (refusal_in (D.content disk.old).reading)) }
 {
-    let log = match FileLogStore::new(alloc, disk) {
-        Ok(log) => log,
-        Err(error) => return Err(error),
-    };
-    let meta = match FileMetaStore::new(alloc, disk) {
-        Ok(meta) => meta,
+    let storage = match FileStorageEngine::new(alloc, data_dir, disk) {
+        Ok(storage) => storage,
         Err(error) => return Err(error),
     };
     match FileStateMachine::new(alloc, disk) {
-        Ok(state) => Ok(Stores { log, meta, state }),
+        Ok(state) => {
+            let (log, meta) = StorageEngine::<D>::split(storage);
+            Ok(Stores { log, meta, state })
+        }
         Err(error) => Err(error),
     }
 }
 
-/// Opens log, hard state and map of a folder, in this order, and brings them together. Over an empty folder the engine
-/// begins with nothing.
+/// Opens log, hard state and map of a folder, in this order, and brings them together. Files that stand for nothing, and
+/// those that ask for a lease or leave no term or index, are refused, with nothing written.
 pub fn open_folder<D: Disk>(
     alloc: Global,
     disk: &mut D,
     config: &RaftNodeConfig,
 ) -> Result<FolderEngine, Error>
     ensures disk { DiskGoesOn D.kind D.moment D.images D.faults disk.old disk.new }
-    ensures survives { IsTrue (D.kind disk.old).tells → is_folder_empty (D.content disk.old).reading ≡ true
-        → Survives durable_in (D.images disk.new) (D.moment disk.old) (D.moment disk.new) [] (entered config.now nothing) [] }
-    ensures kv { IfOk result (λ engine. IsTrue (D.kind disk.old).tells → is_folder_empty (D.content disk.old).reading ≡ true
-        → ⟦<Engine<FileLogStore, FileMetaStore, FileStateMachine> as Stepper<D>>⟧.kv engine ≡ entered config.now nothing) }
+    ensures opening { (kept : Durable) → IsTrue (D.kind disk.old).tells → durable_in (D.content disk.old).reading ≡ Some kept
+        → SurvivesOpening durable_in (D.images disk.old) (D.images disk.new) (D.moment disk.old) (D.moment disk.new) (IsOk result)
+        (D.content disk.new ≡ D.content disk.old) [] (entered config.now kept) [] }
+    ensures kv { IfOk result (λ engine. (kept : Durable) → IsTrue (D.kind disk.old).tells → durable_in (D.content disk.old).reading ≡ Some kept
+        → ⟦<Engine<FileLogStore, FileMetaStore, FileStateMachine> as Stepper<D>>⟧.kv engine ≡ entered config.now kept) }
     ensures term { IfOk result (λ engine. (⟦<Engine<FileLogStore, FileMetaStore, FileStateMachine> as Stepper<D>>⟧.kv engine).durable.term < 2 ^ 64 - 1) }
     ensures index { IfOk result (λ engine. (⟦<Engine<FileLogStore, FileMetaStore, FileStateMachine> as Stepper<D>>⟧.kv engine).durable.last_index < 2 ^ 64 - 1) }
+    ensures weight { IfOk result (λ engine. IsTrue (D.kind disk.old).tells
+        → ⟦<Engine<FileLogStore, FileMetaStore, FileStateMachine> as Stepper<D>>⟧.weight engine ≤ opened_weight (files_size (D.content disk.old).reading)) }
     ensures ready { IfOk result (λ engine. ⟦<Engine<FileLogStore, FileMetaStore, FileStateMachine> as Stepper<D>>⟧.ready engine) }
     ensures rests { IfOk result (λ engine. IsTrue (D.kind disk.old).tells → ⟦<Engine<FileLogStore, FileMetaStore, FileStateMachine> as Stepper<D>>⟧.rests engine (D.content disk.new)) }
-    ensures refused { IfErr result (λ e. IsOpeningRefusal (Rose (D.faults disk.old) (D.faults disk.new)) (D.kind disk.old).limit
-        (IsTrue (D.kind disk.old).tells × (is_folder_empty (D.content disk.old).reading ≡ true)) e) }
+    ensures snapshot { IsTrue (D.kind disk.old).tells → SameOf snapshot_family (D.content disk.old).reading (D.content disk.new).reading }
+    ensures accepted { IfOk result (λ engine. IsTrue (D.kind disk.old).tells → refusal_in (D.content disk.old).reading ≡ None) }
+    ensures refused { IfErr result (IsOpeningRefusal (Rose (D.faults disk.old) (D.faults disk.new)) (D.kind disk.old).limit (IsTrue (D.kind disk.old).tells)
+        (refusal_in (D.content disk.old).reading)) }
+    ensures untouched { (e : Error) → IsTrue (D.kind disk.old).tells → refusal_in (D.content disk.old).reading ≡ Some e
+        → IsUnwritten (D.content disk.old) (D.content disk.new) (NoNewImages (D.images disk.old) (D.images disk.new) (D.moment disk.old) (D.moment disk.new)) }
+    ensures heavy { IsTrue (D.kind disk.old).tells → IfErr result (IsHeavy (D.kind disk.old).limit (opened_weight (files_size (D.content disk.old).reading))) }
 {
-    let running = running_of(alloc, config)?;
-    let stores = open_stores(alloc, disk)?;
+    let running = match running_of(alloc, config) {
+        Ok(running) => running,
+        Err(error) => return Err(error),
+    };
+    let data_dir = match Label::of(alloc, config.cluster.db_root_dir.as_str()) {
+        Ok(data_dir) => data_dir,
+        Err(_) => return Err(Error::OutOfMemory),
+    };
+    let stores = match open_stores(alloc, disk, data_dir) {
+        Ok(stores) => stores,
+        Err(error) => return Err(error),
+    };
     recover(alloc, disk, stores.log, stores.meta, stores.state, running)
 }

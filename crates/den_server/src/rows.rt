@@ -1,7 +1,7 @@
 //! Worked rows: frames in, bytes out, and the bytes of the files, as docs/FORMATS.md gives them.
 use crate::StandaloneEngine;
 use den_codec::{Error, RaftNodeConfig};
-use den_disk::{Family, ListClock, MemDisk, MemLink, Part, Place};
+use den_disk::{Disk, Family, ListClock, MemDisk, MemLink, Part, Place};
 use std::alloc::Global;
 use std::test::Fail;
 
@@ -15,6 +15,22 @@ const WRITTEN: &[u8] = b"\0\0\0\0\0\0\0\x06\x01\0\0\0\x01\x01";
 
 const PAIR: &[u8] =
     b"\0\0\0\0\0\0\0\x1f\x01\0\0\0\x02\0\0\0\0\0\0\0\x01\0\0\0\0\0\0\0\x01a\0\0\0\0\0\0\0\x01b";
+// A put of the empty value at a, and its reading.
+const PUT_EMPTY: &[u8] =
+    b"\0\0\0\0\0\0\0\x1f\x01\0\0\0\x01\x01\0\0\0\0\0\0\0\x01a\0\0\0\0\0\0\0\0\0\0\0\0\0\0\0\0";
+
+const EMPTY_PAIR: &[u8] =
+    b"\0\0\0\0\0\0\0\x1e\x01\0\0\0\x02\0\0\0\0\0\0\0\x01\0\0\0\0\0\0\0\x01a\0\0\0\0\0\0\0\0";
+// A put of a = c, and its reading.
+const PUT_C: &[u8] =
+    b"\0\0\0\0\0\0\0\x20\x01\0\0\0\x01\x01\0\0\0\0\0\0\0\x01a\0\0\0\0\0\0\0\x01c\0\0\0\0\0\0\0\0";
+
+const PAIR_C: &[u8] =
+    b"\0\0\0\0\0\0\0\x1f\x01\0\0\0\x02\0\0\0\0\0\0\0\x01\0\0\0\0\0\0\0\x01a\0\0\0\0\0\0\0\x01c";
+// A delete of a, and the answer to a read of a key that is not held.
+const DELETE: &[u8] = b"\0\0\0\0\0\0\0\x0f\x01\0\0\0\x01\x02\0\0\0\0\0\0\0\x01a";
+
+const NO_PAIR: &[u8] = b"\0\0\0\0\0\0\0\x0d\x01\0\0\0\x02\0\0\0\0\0\0\0\0";
 // What is answered where a request is not carried out.
 const NOT_BUILT: &[u8] = b"\0\0\0\0\0\0\0\x02\x06\xff";
 // A put with a time to live, and a scan of everything.
@@ -36,6 +52,25 @@ const STATE_OF_NOOP: &[u8] =
 
 const STATE_OF_PUT: &[u8] =
     b"\x01\0\0\0\0\0\0\0\x34\x03\0\0\0\0\0\0\0\x01\0\0\0\0\0\0\0\x02\0\0\0\0\0\0\0\x01\x01\0\0\0\0\0\0\0\x01a\0\0\0\0\0\0\0\x01b\0\0\0\0\0\0\0\0";
+
+// The same of the second term and its entry without effect, behind the put.
+const LOG_OF_SECOND: &[u8] =
+    b"\x01\0\0\0\0\0\0\0\x22\x01\0\0\0\0\0\0\0\x01\0\0\0\0\0\0\0\x03\0\0\0\0\0\0\0\x02\0\0\0\0\0\0\x03\xe8\0";
+
+const META_OF_SECOND: &[u8] =
+    b"\x01\0\0\0\0\0\0\0\x15\0\0\0\0\0\0\0\x02\x01\0\0\0\x01\0\0\0\0\0\0\0\x02";
+
+const STATE_OF_SECOND: &[u8] =
+    b"\x01\0\0\0\0\0\0\0\x32\x03\0\0\0\0\0\0\0\x01\0\0\0\0\0\0\0\x03\0\0\0\0\0\0\0\x02\0\0\0\0\0\0\0\0\0\0\0\0\0\0\0\0\0\0\0\0\0\0\0\0\0";
+// The put's region with its gate closed.
+const LOG_OF_CLOSED_PUT: &[u8] =
+    b"\0\0\0\0\0\0\0\0\x35\x01\0\0\0\0\0\0\0\x01\0\0\0\0\0\0\0\x02\0\0\0\0\0\0\0\x01\0\0\0\0\0\0\x03\xe8\x01\0\0\0\0\0\0\0\x01a\0\0\0\0\0\0\0\x01b\0";
+// The put of the empty value.
+const LOG_OF_EMPTY: &[u8] =
+    b"\x01\0\0\0\0\0\0\0\x34\x01\0\0\0\0\0\0\0\x01\0\0\0\0\0\0\0\x02\0\0\0\0\0\0\0\x01\0\0\0\0\0\0\x03\xe8\x01\0\0\0\0\0\0\0\x01a\0\0\0\0\0\0\0\0\0";
+
+const STATE_OF_EMPTY: &[u8] =
+    b"\x01\0\0\0\0\0\0\0\x33\x03\0\0\0\0\0\0\0\x01\0\0\0\0\0\0\0\x02\0\0\0\0\0\0\0\x01\x01\0\0\0\0\0\0\0\x01a\0\0\0\0\0\0\0\0\0\0\0\0\0\0\0\0";
 
 const EMPTY: &[u8] = b"";
 
@@ -87,7 +122,8 @@ fn has_no_snapshot(disk: &MemDisk) -> bool {
 // Whether the files are those of the opening alone.
 fn holds_opening(alloc: Global, disk: &MemDisk) -> Result<bool, Fail> {
     Ok(
-        holds(alloc, disk, Family::Log, &[LOG_OF_NOOP])?
+        has_no_snapshot(disk)
+            && holds(alloc, disk, Family::Log, &[LOG_OF_NOOP])?
             && holds(alloc, disk, Family::Meta, &[META])?
             && holds(alloc, disk, Family::State, &[STATE_OF_NOOP])?,
     )
@@ -96,7 +132,8 @@ fn holds_opening(alloc: Global, disk: &MemDisk) -> Result<bool, Fail> {
 // Whether the files are those of the opening and the put.
 fn holds_put(alloc: Global, disk: &MemDisk) -> Result<bool, Fail> {
     Ok(
-        holds(alloc, disk, Family::Log, &[LOG_OF_NOOP, LOG_OF_PUT])?
+        has_no_snapshot(disk)
+            && holds(alloc, disk, Family::Log, &[LOG_OF_NOOP, LOG_OF_PUT])?
             && holds(alloc, disk, Family::Meta, &[META])?
             && holds(alloc, disk, Family::State, &[STATE_OF_NOOP, STATE_OF_PUT])?,
     )
@@ -193,18 +230,119 @@ fn not_built(rt: HostRuntime) -> Result<(), Fail> {
 }
 
 #[test]
-fn not_empty(rt: HostRuntime) -> Result<(), Fail> {
+fn delete_then_read(rt: HostRuntime) -> Result<(), Fail> {
     let alloc = rt.alloc();
-    let snapshot = Place {
-        family: Family::Snapshot,
-        part: Part::B,
-    };
     let mut disk = MemDisk::new(alloc);
-    disk.set(snapshot, b"x")?;
-    let mut link = link_of(alloc, &[PUT, READ])?;
-    assert_eq!(rt; run(alloc, &mut disk, &mut link)?, Err(Error::NotEmpty));
+    let mut link = link_of(alloc, &[PUT, DELETE, READ])?;
+    assert_eq!(rt; run(alloc, &mut disk, &mut link)?, Ok(()));
+    assert_eq!(rt;
+        link.sent(),
+        joined(alloc, &[WRITTEN, WRITTEN, NO_PAIR])?.as_slice()
+    );
+    Ok(())
+}
+
+#[test]
+fn empty_value_reopened(rt: HostRuntime) -> Result<(), Fail> {
+    let alloc = rt.alloc();
+    let mut disk = MemDisk::new(alloc);
+    let mut link = link_of(alloc, &[PUT_EMPTY])?;
+    assert_eq!(rt; run(alloc, &mut disk, &mut link)?, Ok(()));
+    assert_eq!(rt; link.sent(), WRITTEN);
+    let mut link = link_of(alloc, &[READ])?;
+    assert_eq!(rt; run(alloc, &mut disk, &mut link)?, Ok(()));
+    assert_eq!(rt; link.sent(), EMPTY_PAIR);
+    assert!(rt;
+        holds(
+            alloc,
+            &disk,
+            Family::Log,
+            &[LOG_OF_NOOP, LOG_OF_EMPTY, LOG_OF_SECOND]
+        )?
+    );
+    assert!(rt; holds(alloc, &disk, Family::Meta, &[META, META_OF_SECOND])?);
+    assert!(rt;
+        holds(
+            alloc,
+            &disk,
+            Family::State,
+            &[STATE_OF_NOOP, STATE_OF_EMPTY, STATE_OF_SECOND]
+        )?
+    );
+    Ok(())
+}
+
+#[test]
+fn torn_gate_reopened(rt: HostRuntime) -> Result<(), Fail> {
+    let alloc = rt.alloc();
+    let mut disk = MemDisk::new(alloc);
+    assert_eq!(rt;
+        run(alloc, &mut disk, &mut link_of(alloc, &[PUT, READ])?)?,
+        Ok(())
+    );
+    let log = Place {
+        family: Family::Log,
+        part: Part::A,
+    };
+    assert_eq!(rt; disk.write_at(log, 0, &[0]), Ok(()));
+    let mut link = link_of(alloc, &[])?;
+    assert_eq!(rt; run(alloc, &mut disk, &mut link)?, Ok(()));
     assert_eq!(rt; link.sent(), EMPTY);
-    assert_eq!(rt; disk.get(snapshot), b"x".as_slice());
+    // The log begins anew, and what stood behind its first gate stays.
+    assert!(rt;
+        holds(
+            alloc,
+            &disk,
+            Family::Log,
+            &[LOG_OF_SECOND, LOG_OF_CLOSED_PUT]
+        )?
+    );
+    assert!(rt; holds(alloc, &disk, Family::Meta, &[META, META_OF_SECOND])?);
+    assert!(rt;
+        holds(
+            alloc,
+            &disk,
+            Family::State,
+            &[STATE_OF_NOOP, STATE_OF_PUT, STATE_OF_SECOND]
+        )?
+    );
+    Ok(())
+}
+
+// A put of a = c over the files of a put of a = b, stopped behind so many calls of the disk, then a crash of this choice:
+// whether the run answered a storage fault, and a is b or c then, and c where a byte of the reply was sent. None where
+// the run came to its end.
+fn survives(alloc: Global, calls: u64, choice: u64) -> Result<Option<bool>, Fail> {
+    let mut disk = MemDisk::new(alloc);
+    let first = run(alloc, &mut disk, &mut link_of(alloc, &[PUT, READ])?)?;
+    disk.fuse(calls);
+    let mut link = link_of(alloc, &[PUT_C])?;
+    let stopped = run(alloc, &mut disk, &mut link)?;
+    if stopped == Ok(()) {
+        return Ok(None);
+    }
+    disk.crash(choice);
+    let mut again = link_of(alloc, &[READ])?;
+    let reopened = run(alloc, &mut disk, &mut again)?;
+    let runs = first == Ok(()) && stopped == Err(Error::StorageIoError) && reopened == Ok(());
+    let old = link.sent().is_empty() && again.sent() == PAIR;
+    Ok(Some(runs && (old || again.sent() == PAIR_C)))
+}
+
+#[test]
+fn stopped_anywhere(rt: HostRuntime) -> Result<(), Fail> {
+    let alloc = rt.alloc();
+    for choice in 0..4 {
+        let mut calls = 0;
+        while calls < 500 {
+            match survives(alloc, calls, choice)? {
+                Some(held) => assert!(rt; held, "behind {calls} calls, crash {choice}"),
+                None => break,
+            }
+            calls += 1;
+        }
+        assert!(rt; 20 < calls && calls < 500);
+    }
     Ok(())
 }
 

@@ -1,15 +1,15 @@
 -- What the changes of a log in memory make of the log.
-use Rattle.std.proofs.Common.{◌≡◌, ℕ, zero, suc, ◌+◌, ◌-◌, ◌<◌, ◌≤◌, ◌⊎◌, inl, inr, Bool, true, false, cond, List, [], ◌∷◌, ◌++◌, length, get_or, take, drop, Option, Some, None, refl, sym, ap, ◌∙◌, subst, arith}
+use Rattle.std.proofs.Common.{◌≡◌, ℕ, suc, ◌+◌, ◌-◌, ◌<◌, ◌≤◌, inl, inr, Bool, true, false, List, [], ◌∷◌, ◌++◌, length, get_or, Option, Some, None, refl, sym, ap, ◌∙◌, subst, arith}
 use Rattle.std.specs.List.{AllByRecursion}
-use Rattle.std.specs.Prelude.{nat_lt, nat_le, ◌&&◌, ◌||◌, not, is_none, is_some}
+use Rattle.std.specs.Prelude.{nat_lt, nat_le, ◌||◌, not, is_none, is_some, IfSome, if◌then◌else◌}
 use Rattle.std.proofs.lemmas.Bool.{ltb-true, ltb-false, lt-ltb, le-ltb, le-leb, lt-leb, leb-true, and_from, and_parts, or_cases, cond-true, cond-false, cases_Bool}
 use Rattle.den_model.specs.declared.log_id.LogId.{LogId}
-use Rattle.den_model.specs.declared.region.LogRegion.TheVariants.{Append, Truncate, Purge, Replace, Reset}
+use Rattle.den_model.specs.declared.region.LogRegion.TheVariants.{Append, Purge, Replace}
 use Rattle.den_model.specs.Entries.{LogEntry, EntriesFrom, rise_above, rise_from, begin_from}
-use Rattle.den_model.specs.declared.region.LogRegion.{LogRegion}
 use Rattle.den_model.specs.Words.{FitsEntry, FitsLogRegion}
+use Rattle.den_model.proofs.Spells.{some_is}
 use Rattle.den_store.specs.Order.{IsInOrder}
-use Rattle.den_store.proofs.Rising.{lower, replaced_rise, rise_from_above, rise_from_begins, above_rise, below_rise}
+use Rattle.den_store.proofs.Rising.{lower, replaced_rise, rise_from_above, above_rise, below_rise}
 use Rattle.den_model.specs.Log.{Log, floor, below, above, changed, replaced, is_lawful, last_of}
 
 pub last_none : (i : ℕ) (es : List LogEntry) → length es ≤ 0 → last_of i es ≡ i
@@ -54,7 +54,20 @@ pub bounded : (o : Option LogId) (r b : Bool) → is_some o ≡ not r → r ≡ 
 bounded None r b is f = absurd (cc (is, ap not f))
 bounded (Some x) r b is f = refl
 
+-- a replacement from above the boundary is lawful
+pub above_lawful : (o : Option LogId) (es : List LogEntry) (from : ℕ) → IfSome o (λ b. b.index < from) → let l : Log = record { boundary = o; entries = es } in (is_none o || nat_lt (floor l) from) ≡ true
+above_lawful None es from above = refl
+above_lawful (Some b) es from above = lt-ltb b.index from above
+
+pub made_of : (test : Bool) (x y : EntriesFrom) → Some x ≡ (if test then Some y else None) → x ≡ y
+made_of true x y is = some_is x y is
+made_of false x y is = absurd (cc is)
+
 -- ---- the order of what a region makes
+
+-- entries in order rise from the least index on
+pub all_rise : (l : Log) (es : List LogEntry) → IsInOrder l → es ≡ l.entries → rise_above 0 es ≡ true
+all_rise l es order is = subst (λ (x : List LogEntry). rise_above 0 x ≡ true) (sym is) (lower 0 (floor l) l.entries (omega arith) order.rises)
 
 floor_none : (o : Option LogId) (es : List LogEntry) → is_none o ≡ true → let l : Log = record { boundary = o; entries = es } in floor l ≡ 0
 floor_none None es none = refl

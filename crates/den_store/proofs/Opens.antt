@@ -1,9 +1,8 @@
 -- What an opened family's files give.
-use Rattle.std.proofs.Common.{◌≡◌, ◌⊎◌, ℕ, ◌+◌, ◌<◌, ◌^◌, List, [], ◌∷◌, ◌++◌, length, Option, Result, Ok, Err, refl, sym, ap, ◌∙◌, subst, arith, length-append}
+use Rattle.std.proofs.Common.{◌≡◌, ℕ, ◌+◌, ◌<◌, ◌^◌, List, [], ◌∷◌, length, Result, Ok, Err, sym, ap, ◌∙◌, subst, arith, length-append}
 use Rattle.std.specs.Result.{IsErrAnd, IfErr}
 use Rattle.den_disk.specs.declared.place.Family.{Family}
 use Rattle.den_disk.specs.declared.place.Place.{Place}
-use Rattle.den_disk.specs.Place.{place_number}
 use Rattle.den_disk.specs.Files.{Content}
 use Rattle.den_disk.specs.Families.{SparesAll}
 use Rattle.den_model.specs.Spelling.{u64_word}
@@ -36,7 +35,7 @@ loaded_gives family meaning l old new x is gives = ap (λ (ps : List (List ℕ))
 
 -- ---- offsets
 
-end_is : (n : ℕ) (ps : List (List ℕ)) → end_from n ps ≡ n + length (open_regions ps)
+pub end_is : (n : ℕ) (ps : List (List ℕ)) → end_from n ps ≡ n + length (open_regions ps)
 end_is n [] = omega arith
 end_is n (p ∷ ps) =
     omega (arith, end_is (n + (9 + length p)) ps, length-append (open_region p) (open_regions ps), length-append (u64_word (length p)) p, length_u64_word (length p))
@@ -58,7 +57,7 @@ unread_weaker rose P Q error.FeatureNotEnabled weaker h = h
 unread_weaker rose P Q error.ProposeFailed weaker h = h
 unread_weaker rose P Q (error.UnorderedChunk index) weaker h = h
 unread_weaker rose P Q (error.Config place) weaker h = h
-unread_weaker rose P Q error.NotEmpty weaker h = h
+unread_weaker rose P Q error.StateMachineError weaker h = h
 
 -- a refusal that is handed on
 pub handed_on : {A E : Type 0} (P : E → Type 0) (x : E) (r : Result A E) → IsErrAnd r (λ e. e ≡ x) → P x → IfErr r P

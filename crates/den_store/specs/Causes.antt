@@ -10,3 +10,9 @@ IsRefusal rose most OutOfMemory = Unit {0}
 IsRefusal rose most StorageIoError = rose
 IsRefusal rose most (DiskFull needed limit) = (limit < needed) × (limit ≡ most)
 IsRefusal rose most _ = ⊥
+
+-- a refusal of the disk itself
+abbrev pub IsOfDisk : Error → Type 0
+IsOfDisk StorageIoError = Unit {0}
+IsOfDisk (DiskFull needed limit) = Unit {0}
+IsOfDisk _ = ⊥

@@ -1,5 +1,5 @@
 -- A log store over a gate file.
-use Rattle.std.specs.Prelude.{◌≡◌, ℕ, false, Option, Some, Result, Ok}
+use Rattle.std.specs.Prelude.{◌≡◌, ℕ, false, Option, Some, Ok}
 use Rattle.std.proofs.Common.{◌∙◌, sym, ap, subst}
 use Rattle.den_disk.specs.declared.place.Family.{Family}
 use Rattle.den_disk.specs.declared.place.Family.TheVariants.{Log as log_family}
@@ -22,6 +22,10 @@ file_log s = log_of s.held
 -- the number of the slot that it uses
 abbrev pub file_place : FileLogStore → ℕ
 file_place s = place_number (record { family = log_family; part = s.gate.slot.part })
+
+-- the bytes of its regions
+abbrev pub log_weight : FileLogStore → ℕ
+log_weight s = s.gate.end
 
 -- its gate file has not failed
 abbrev pub IsLogReady : FileLogStore → Type 0

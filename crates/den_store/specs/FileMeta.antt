@@ -1,5 +1,5 @@
 -- A store of the hard state over a gate file.
-use Rattle.std.specs.Prelude.{◌≡◌, ℕ, false, Option, Some, None, Result, Ok}
+use Rattle.std.specs.Prelude.{◌≡◌, ℕ, false, Option, Some, None, Ok}
 use Rattle.std.proofs.Common.{◌∙◌, sym, ap, subst}
 use Rattle.den_disk.specs.declared.place.Family.{Family}
 use Rattle.den_disk.specs.declared.place.Family.TheVariants.{Meta as meta_family}
@@ -16,6 +16,10 @@ use Rattle.den_store.specs.Meanings.{own_meaning}
 -- its last hard state
 abbrev pub file_state : FileMetaStore → Option HardState
 file_state s = s.last
+
+-- the bytes of its regions
+abbrev pub meta_weight : FileMetaStore → ℕ
+meta_weight s = s.gate.end
 
 -- its gate file has not failed
 abbrev pub IsMetaReady : FileMetaStore → Type 0

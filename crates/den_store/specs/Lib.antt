@@ -1,8 +1,10 @@
 pub mod Causes
+pub mod Engine
 pub mod FileLog
 pub mod FileMeta
 pub mod Folding
 pub mod Held
+pub mod Lookup
 pub mod Meanings
 pub mod Opening
 pub mod Order

@@ -1,5 +1,4 @@
 -- What a store makes of its gate file's refusals.
-use Rattle.std.specs.Prelude.{ℕ}
 use Rattle.den_disk.specs.declared.place.Family.{Family}
 use Rattle.den_disk.specs.Place.{place_number}
 use Rattle.den_gate.specs.declared.error.GateError.{GateError}

@@ -5,6 +5,7 @@ ghost use Rattle.den_model.specs.Log.{empty_log, floor, below, above, between, r
 ghost use Rattle.den_model.specs.Words.{FitsLogRegion};
 ghost use Rattle.den_model.specs.Spelling.{log_region_word};
 ghost use Rattle.den_model.specs.declared.region.LogRegion.TheVariants.{Append, Truncate, Purge, Reset};
+ghost use Rattle.den_store.specs.Lookup.{entry_at, entries_of};
 ghost use Rattle.den_store.specs.Order.{IsInOrder};
 
 use crate::copies::copied;
@@ -38,7 +39,7 @@ impl HeldLog {
     }
 
     // The boundary's index, or 0.
-    fn floor(&self) -> u64
+    pub(crate) fn floor(&self) -> u64
         ensures { result ≡ floor (log_of self.now) }
     {
         match self.boundary {
@@ -105,6 +106,21 @@ impl HeldLog {
         Ok(Prepared { copies, word })
     }
 
+    // The held entry of an index.
+    pub(crate) fn entry(&self, index: u64) -> Result<Option<Entry>, AllocError>
+        ensures { IfOk result (λ found. found ≡ entry_at index (log_of self.now).entries) }
+    {
+        let entries = self.entries.as_slice();
+        let before = count_below(entries, index);
+        let Some(entry) = entries.get(before) else {
+            return Ok(None);
+        };
+        if entry.index() != index {
+            return Ok(None);
+        }
+        Ok(Some(entry.copy()?))
+    }
+
     // The held entries from one index up to another.
     pub(crate) fn range(
         &self,
@@ -128,14 +144,15 @@ impl HeldLog {
         requires room { vec_len self.old.entries + vec_len entries ≤ vec_capacity self.old.entries }
         ensures { log_of self.new ≡ replaced (log_of self.old) from entries.items }
     {
-        let kept = count_below(self.entries.as_slice(), from);
-        self.entries.truncate(kept);
+        self.truncate(from);
         let appended = self.entries.append(&mut entries);
         prove!(appended.is_ok());
     }
 
     fn truncate(&mut self, from: u64)
-        ensures { log_of self.new ≡ changed (log_of self.old) (Truncate from) }
+        ensures log { log_of self.new ≡ changed (log_of self.old) (Truncate from) }
+        ensures fewer { vec_len self.new.entries ≤ vec_len self.old.entries }
+        ensures room { vec_capacity self.new.entries ≡ vec_capacity self.old.entries }
     {
         let kept = count_below(self.entries.as_slice(), from);
         self.entries.truncate(kept);
@@ -162,29 +179,48 @@ impl HeldLog {
 impl HeldLog {
     ghost use Rattle.den_store.specs.Held.{log_of};
 
-    // What a region makes of the log.
-    pub(crate) fn take(&mut self, region: LogRegion) -> Result<(), AllocError>
+    // Makes room for the entries that a region adds.
+    pub(crate) fn make_room(&mut self, region: &LogRegion) -> Result<(), AllocError>
+        ensures log { log_of self.new ≡ log_of self.old }
+        ensures room { OnOk result (vec_len self.new.entries + length (entries_of region.now) ≤ vec_capacity self.new.entries) }
+    {
+        match region {
+            LogRegion::Append { entries } => self.reserve(entries.as_slice().len()),
+            LogRegion::Replace { replacement } => self.reserve(replacement.as_slice().len()),
+            LogRegion::Truncate { .. } | LogRegion::Purge { .. } | LogRegion::Reset => Ok(()),
+        }
+    }
+
+    // Makes of the log what a region makes of it. Takes no memory.
+    pub(crate) fn settle(&mut self, region: LogRegion)
         requires lawful { is_lawful (log_of self.old) region ≡ true }
         requires fits { FitsLogRegion region }
-        ensures { OnOk result (log_of self.new ≡ changed (log_of self.old) region) }
+        requires room { vec_len self.old.entries + length (entries_of region) ≤ vec_capacity self.old.entries }
+        ensures { log_of self.new ≡ changed (log_of self.old) region }
     {
         match region {
             LogRegion::Append { entries } => {
                 let from = entries.as_slice()[0].index();
-                let entries = entries.into_items();
-                self.reserve(entries.len())?;
-                self.replace(from, entries);
+                self.replace(from, entries.into_items());
             }
             LogRegion::Truncate { from } => self.truncate(from),
             LogRegion::Purge { index, term } => self.purge(index.get(), term),
             LogRegion::Replace { replacement } => {
                 let from = replacement.from();
-                let entries = replacement.into_items();
-                self.reserve(entries.len())?;
-                self.replace(from, entries);
+                self.replace(from, replacement.into_items());
             }
             LogRegion::Reset => self.reset(),
         }
+    }
+
+    // The same, with the memory that it takes.
+    pub(crate) fn take(&mut self, region: LogRegion) -> Result<(), AllocError>
+        requires lawful { is_lawful (log_of self.old) region ≡ true }
+        requires fits { FitsLogRegion region }
+        ensures { OnOk result (log_of self.new ≡ changed (log_of self.old) region) }
+    {
+        self.make_room(&region)?;
+        self.settle(region);
         Ok(())
     }
 }

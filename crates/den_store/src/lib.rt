@@ -2,6 +2,7 @@
 #![tactic(auto)]
 
 mod copies;
+mod engine;
 mod family;
 mod held_log;
 mod log_store;
@@ -9,6 +10,7 @@ mod meta_store;
 mod replay;
 mod stores;
 
+pub use engine::{FileStorageEngine, StorageEngine};
 pub use log_store::FileLogStore;
 pub use meta_store::FileMetaStore;
 pub use stores::{LogStore, MetaStore};

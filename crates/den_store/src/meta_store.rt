@@ -5,7 +5,8 @@ ghost use Rattle.den_disk.specs.Place.{place_number};
 ghost use Rattle.den_disk.specs.Goes.{DiskGoesOn, Rose};
 ghost use Rattle.den_disk.specs.Families.{SparesAll, NoNewImages};
 ghost use Rattle.den_model.specs.Image.{slot_of, hard_state_held};
-ghost use Rattle.den_store.specs.FileMeta.{file_state, state_held, IsMetaReady, MetaRests, meta_rests_own, meta_holds_own, meta_rests_hold};
+ghost use Rattle.den_model.specs.Sizes.{family_size};
+ghost use Rattle.den_store.specs.FileMeta.{file_state, meta_weight, state_held, IsMetaReady, MetaRests, meta_rests_own, meta_holds_own, meta_rests_hold};
 ghost use Rattle.den_store.specs.Folding.{IsUnread};
 ghost use Rattle.den_store.specs.Opening.{IsSettled};
 
@@ -34,6 +35,7 @@ impl FileMetaStore {
         ensures spares { IsTrue (D.kind disk.old).tells → SparesAll (D.content disk.old) (D.content disk.new) }
         ensures settled { IsTrue (D.kind disk.old).tells → IsSettled result (D.content disk.old) (D.content disk.new) }
         ensures opened { IsTrue (D.kind disk.old).tells → IfOk result (λ s. hard_state_held (D.content disk.old).reading ≡ Ok (file_state s)) }
+        ensures weight { IsTrue (D.kind disk.old).tells → IfOk result (λ s. meta_weight s ≡ family_size meta_family (D.content disk.old).reading) }
         ensures ready { IfOk result IsMetaReady }
         ensures rests { IsTrue (D.kind disk.old).tells → IfOk result (λ s. MetaRests s (D.content disk.new)) }
         ensures refused { IfErr result (IsUnread (Rose (D.faults disk.old) (D.faults disk.new)) (λ place offset. IsTrue (D.kind disk.old).tells →
@@ -55,6 +57,8 @@ impl<D: Disk> MetaStore<D> for FileMetaStore {
 
     ghost holds = { state_held };
 
+    ghost weight = { meta_weight };
+
     ghost rests = { MetaRests };
 
     ghost ready = { IsMetaReady };
@@ -75,6 +79,17 @@ impl<D: Disk> MetaStore<D> for FileMetaStore {
             }
             Err(error) => Err(refusal(Family::Meta, error)),
         }
+    }
+
+    fn flush(&mut self, disk: &mut D) -> Result<(), Error> {
+        match self.gate.flush(disk) {
+            Ok(()) => Ok(()),
+            Err(error) => Err(refusal(Family::Meta, error)),
+        }
+    }
+
+    fn is_failed(&self) -> bool {
+        self.gate.is_failed()
     }
 
     fn load_hard_state(&self) -> Option<HardState> {

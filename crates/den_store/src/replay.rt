@@ -1,8 +1,9 @@
 // A log and a hard state, made anew from the payloads of their files.
-ghost use Rattle.std.specs.Prelude.{◌≡◌, ◌<◌, ◌+◌, ◌-◌, ◌^◌, min, length, Some, None, Ok, Err, IfOk, IfErr, OnErr, if◌then◌else◌};
+ghost use Rattle.std.specs.Prelude.{◌≡◌, ◌≤◌, ◌<◌, ◌+◌, ◌-◌, ◌^◌, min, length, Some, None, Ok, Err, IfOk, IfErr, OnErr, IsTrue, if◌then◌else◌};
 ghost use Rattle.den_model.specs.Regions.{placed};
 ghost use Rattle.den_model.specs.Log.{empty_log, log_from, log_after_payload};
 ghost use Rattle.den_model.specs.Image.{hard_state_from};
+ghost use Rattle.den_model.specs.Sizes.{entries_size};
 ghost use Rattle.den_store.specs.Folding.{end_from, IsUnread};
 ghost use Rattle.den_store.specs.Held.{log_of};
 
@@ -12,7 +13,8 @@ use std::alloc::{AllocError, Global};
 
 // Makes of a log what one more payload says; false where that is no word of a region, or not lawful here.
 fn take_payload(alloc: Global, held: &mut HeldLog, payload: &[u8]) -> Result<bool, AllocError>
-    ensures { IfOk result (λ taken. log_after_payload (log_of held.old) payload.now ≡ (if taken then Some (log_of held.new) else None)) }
+    ensures taken { IfOk result (λ taken. log_after_payload (log_of held.old) payload.now ≡ (if taken then Some (log_of held.new) else None)) }
+    ensures size { IfOk result (λ taken. IsTrue taken → entries_size (log_of held.new).entries ≤ entries_size (log_of held.old).entries + length payload.now) }
 {
     let Some(region) = LogRegion::read(alloc, payload)? else {
         return Ok(false);
@@ -36,6 +38,7 @@ fn behind(offset: u64, payload: &[u8]) -> u64
 // The log that these payloads of a file make, or the offset of the first that is no lawful word.
 pub(crate) fn replay_log(alloc: Global, payloads: &[Blob], place: u8) -> Result<HeldLog, Error>
     ensures read { IfOk result (λ held. log_from empty_log (placed 0 payloads.now) ≡ Ok (log_of held)) }
+    ensures size { IfOk result (λ held. entries_size (log_of held).entries ≤ end_from 0 payloads.now) }
     ensures refused { IfErr result (IsUnread ⊥ (λ at offset. (at ≡ place) × (end_from 0 payloads.now < 2 ^ 64 → log_from empty_log (placed 0 payloads.now) ≡ Err offset))) }
 {
     let mut held = HeldLog::empty(alloc);

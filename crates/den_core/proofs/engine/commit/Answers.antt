@@ -1,11 +1,13 @@
-use Rattle.std.proofs.Common.{IsTrue, Some, sym, ap, subst, ◌∙◌}
+use Rattle.std.proofs.Common.{IsTrue, Some, refl, sym, ap, subst, ◌∙◌, arith}
 use Rattle.den_disk.specs.Families.{OldOrNew}
+use Rattle.den_disk.specs.Files.{Kind}
 use Rattle.den_model.specs.Apply.{applied}
 use Rattle.den_model.specs.Image.{joined}
 use Rattle.den_core.specs.Joined.{durable_is}
 use Rattle.den_core.specs.Parts.{durable_of}
 use Rattle.den_core.proofs.Durables.{logged_is, applied_again, caught_up_now, next_is}
 use Rattle.den_core.proofs.Spared.{gives_now, spared, apart_own, log_moves, state_moves, moves_then, meta_log, state_log, log_state, meta_state}
+use Rattle.den_core.proofs.Weighing.{entry_is, heavier_out}
 use Rattle.den_core.proofs.engine.commit.Goals as goal
 
 -- the entry joined the log, or did not
@@ -139,3 +141,16 @@ returns-clause-rests g c = λ told.
           (g.met.T.MetaStore.rests_own engine.meta _ _ (apart_own _ _ _ _ meta_log (persist.spares told)) (c.requires.rests told).meta);
       state = apply.rests then;
     }
+
+-- the log is handed the entry, and then the map
+pub returns-in_err-persist_entries-clause-heavy : goal.returns-in_err-persist_entries-clause-heavy
+returns-in_err-persist_entries-clause-heavy g c = heavier_out c.from_residual.result c.in_err-persist_entries.field-0.0 _ _ _ _ c.from_residual.ensures.1 refl
+    (omega (arith, entry_is c.of.result _ _ _ c.args.command c.of.ensures)) c.in_err-persist_entries.ensures.heavy
+
+pub returns-in_err-results-clause-heavy : goal.returns-in_err-results-clause-heavy
+returns-in_err-results-clause-heavy g c = heavier_out c.from_residual-in_err-results.result c.in_err-results.field-0.0 _ _ _ _ c.from_residual-in_err-results.ensures.1
+    (ap (λ (k : Kind). k.limit) c.persist_entries.ensures.disk.same)
+    (omega (arith, entry_is c.of.result _ _ _ c.args.command c.of.ensures)) c.in_err-results.ensures.heavy
+
+pub returns-clause-weight : goal.returns-clause-weight
+returns-clause-weight g c = omega (arith, c.in_ok-persist_entries.ensures.weight, c.in_ok-results.ensures.weight, entry_is c.of.result _ _ _ c.args.command c.of.ensures)

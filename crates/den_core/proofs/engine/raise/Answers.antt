@@ -1,8 +1,9 @@
-use Rattle.std.proofs.Common.{◌+◌, Some, ap, ◌∙◌}
-use Rattle.std.proofs.lemmas.Result.{on_ok_weaker}
+use Rattle.std.proofs.Common.{◌+◌, Some, refl, ap, ◌∙◌, arith}
+use Rattle.std.proofs.lemmas.Result.{on_ok_weaker, IfErr-weaker}
 use Rattle.den_model.specs.MapState.{part_of}
 use Rattle.den_core.specs.Joined.{durable_is}
 use Rattle.den_core.proofs.Spared.{gives_now, spared, apart_own, meta_moves, log_meta, state_meta}
+use Rattle.den_core.proofs.Weighing.{hard_state_length, heavier}
 use Rattle.den_core.proofs.engine.raise.Goals as goal
 
 -- the hard state was saved, or was not
@@ -32,3 +33,10 @@ returns-clause-rests g c = on_ok_weaker c.save_hard_state.result (λ rests told.
       meta = rests told;
       state = g.met.M.StateMachine.rests_own engine.state _ _ (apart_own _ _ _ _ state_meta (save.spares told)) (c.requires.rests told).state;
     }) c.save_hard_state.ensures.rests
+
+-- it is handed the new hard state
+pub returns-clause-weight : goal.returns-clause-weight
+returns-clause-weight g c = on_ok_weaker c.save_hard_state.result (λ weight. omega (arith, weight, hard_state_length (record { current_term = c.current_term-term.result + 1; voted_for = c.vote.result }))) c.save_hard_state.ensures.weight
+
+pub returns-clause-heavy : goal.returns-clause-heavy
+returns-clause-heavy g c = IfErr-weaker c.save_hard_state.result _ _ (λ e heavy. heavier _ _ _ _ e refl (omega (arith, hard_state_length (record { current_term = c.current_term-term.result + 1; voted_for = c.vote.result }))) heavy) c.save_hard_state.ensures.heavy

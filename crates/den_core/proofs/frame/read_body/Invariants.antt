@@ -1,4 +1,4 @@
-use Rattle.std.proofs.Common.{◌≡◌, ◌+◌, ◌++◌, ◌≤◌, length, IsTrue}
+use Rattle.std.proofs.Common.{◌≡◌, ◌+◌, ◌++◌, ◌≤◌, length, vec_len, IsTrue}
 use Rattle.den_disk.specs.Goes.{LinkGoesOn}
 use Rattle.den_core.proofs.frame.read_body.Given as goal
 
@@ -7,10 +7,12 @@ invariant-loop-rest g l =
     let L = g.L.Link in
     record {
       on : LinkGoesOn L.tells L.sent L.budget L.taken L.faults l.fn.link l.link;
+      counted : IsTrue (L.tells l.fn.link) → L.taken l.link + length (L.left l.link) ≡ L.taken l.fn.link + length (L.left l.fn.link);
       quiet : IsTrue (L.tells l.fn.link) → L.sent l.link ≡ L.sent l.fn.link;
       bytes : IsTrue (L.tells l.fn.link) → L.left l.fn.link ≡ l.body.items ++ L.left l.link;
-      size : IsTrue (L.tells l.fn.link) → length l.body.items + l.rest ≡ l.size;
       within : l.rest ≤ l.size;
+      taken : L.taken l.link + l.rest ≡ L.taken l.fn.link + l.size;
+      size : vec_len l.body + l.rest ≡ l.size;
     }
 
 abbrev pub decreases-loop-rest : goal.decreases-loop-rest

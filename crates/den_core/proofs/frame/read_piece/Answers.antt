@@ -1,4 +1,4 @@
-use Rattle.std.proofs.Common.{◌≡◌, ◌+◌, ◌∙◌, sym, ap, arith, length}
+use Rattle.std.proofs.Common.{◌≡◌, ◌+◌, ◌∙◌, sym, length}
 use Rattle.den_core.proofs.Cutting.{tail_put, tail_room, piece_read}
 use Rattle.den_core.proofs.frame.read_piece.Goals as goal
 

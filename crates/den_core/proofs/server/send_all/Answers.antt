@@ -16,6 +16,7 @@ loop-event-preserved g c =
     let send = c.in_ok-send_frame-2.ensures in
     record {
       on = link_twice _ _ _ _ _ _ _ _ inv.on send.on;
+      taken = send.taken ∙ inv.taken;
       left = λ told. send.left (subst (λ b. IsTrue b) (sym inv.on.same) told) ∙ inv.left told;
       sent = λ told. event_sent _ c.args.out.now.events _ _ c.event-item.result _ _ _ _ c.as_slice-event-items.ensures c.loop-event-test.true c.event-item.is (inv.sent told) (send.all (subst (λ b. IsTrue b) (sym inv.on.same) told));
     }

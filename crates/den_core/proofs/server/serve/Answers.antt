@@ -1,18 +1,23 @@
-use Rattle.std.proofs.Common.{◌≡◌, ◌∷◌, IsTrue, sym, ◌∙◌, ap, subst}
+use Rattle.std.proofs.Common.{◌∷◌, IsTrue, refl, sym, ◌∙◌, ap, subst, arith}
 use Rattle.den_disk.specs.Files.{Kind}
-use Rattle.den_model.specs.Crash.{Stands, Tells}
+use Rattle.den_model.specs.Crash.{Tells}
 use Rattle.den_model.specs.Frames.{frames}
 use Rattle.den_core.proofs.FramesSoFar.{begins, begun_over, served_over, done_over}
 use Rattle.den_core.proofs.GoesOn.{disk_same, disk_twice, link_same, link_twice, clock_same, clock_twice, clock_read, found_some, found_none}
+use Rattle.den_core.proofs.Spared.{same_twice}
 use Rattle.den_core.proofs.Stretch.{stands_now}
+use Rattle.den_core.proofs.Weighing.{counted_on, served_on, heavier_out}
 use Rattle.den_core.proofs.server.serve.Goals as goal
 
 pub frames-init : goal.frames-init
 frames-init g c = record {
   limit = c.new-reader.ensures;
   disk = disk_same _ _ _ _ _;
+  snapshot = λ told q is. refl;
   link = link_same _ _ _ _ _ _;
   clock = clock_same _ _ _;
+  counted = λ told. refl;
+  weight = omega arith;
   ready = c.requires.ready;
   rests = c.requires.rests;
   so_far = λ told.
@@ -46,6 +51,12 @@ returns-in_err-serve_frame-clause-survives g c = λ told.
     (inv.so_far before) (found_some _ _ _ _ _ _ inv.limit c.in-Some.is (c.in_ok-found.ensures.found link_tells))
     (c.serve_frame.ensures.survives disk_tells then_tells)
 
+pub returns-in_err-serve_frame-clause-heavy : goal.returns-in_err-serve_frame-clause-heavy
+returns-in_err-serve_frame-clause-heavy g c =
+    let inv = c.frames.invariant in
+    heavier_out c.from_residual-in_err-serve_frame.result c.in_err-serve_frame.field-0.0 _ _ _ _ c.from_residual-in_err-serve_frame.ensures.1 (ap (λ (k : Kind). k.limit) inv.disk.same)
+    (served_on (g.S.Stepper.weight c.args.stepper.now) (g.S.Stepper.weight c.frames.stepper) (g.L.Link.taken c.args.link.now) (g.L.Link.taken c.frames.link) (g.L.Link.taken c.next.new.link) (g.L.Link.taken c.serve_frame.new.link) _ c.in-Some.frame c.in-Some.is inv.weight inv.link.more c.in_ok-found.ensures.size c.serve_frame.ensures.taken c.next.ensures.on.more) c.in_err-serve_frame.ensures.heavy
+
 -- and served
 pub frames-preserved : goal.frames-preserved
 frames-preserved g c =
@@ -53,8 +64,15 @@ frames-preserved g c =
     record {
       limit = c.next.ensures.limit ∙ inv.limit;
       disk = disk_twice _ _ _ _ _ _ _ inv.disk c.serve_frame.ensures.disk;
+      snapshot = λ told. same_twice _ _ _ _ (inv.snapshot told) (c.serve_frame.ensures.snapshot (subst (λ (k : Kind). IsTrue k.tells) (sym inv.disk.same) told));
       link = link_twice _ _ _ _ _ _ _ _ (link_twice _ _ _ _ _ _ _ _ inv.link c.next.ensures.on) c.serve_frame.ensures.link;
       clock = clock_twice _ _ _ _ _ inv.clock (clock_read _ _ _ _ c.now.result c.now.ensures.told c.now.ensures.tells);
+      counted = λ told.
+          let link_tells : IsTrue (g.L.Link.tells c.frames.link) = subst (λ b. IsTrue b) (sym inv.link.same) told in
+          let then_tells : IsTrue (g.L.Link.tells c.next.new.link) = subst (λ b. IsTrue b) (sym c.next.ensures.on.same) link_tells in
+          counted_on (g.L.Link.taken c.args.link.now) (g.L.Link.taken c.next.new.link) (g.L.Link.taken c.serve_frame.new.link) (g.L.Link.left c.args.link.now) (g.L.Link.left c.next.new.link) (g.L.Link.left c.serve_frame.new.link)
+          c.serve_frame.ensures.taken (c.serve_frame.ensures.left then_tells) (c.next.ensures.counted link_tells ∙ inv.counted told);
+      weight = omega (arith, c.in_ok-serve_frame.ensures.weight, served_on (g.S.Stepper.weight c.args.stepper.now) (g.S.Stepper.weight c.frames.stepper) (g.L.Link.taken c.args.link.now) (g.L.Link.taken c.frames.link) (g.L.Link.taken c.next.new.link) (g.L.Link.taken c.serve_frame.new.link) _ c.in-Some.frame c.in-Some.is inv.weight inv.link.more c.in_ok-found.ensures.size c.serve_frame.ensures.taken c.next.ensures.on.more);
       ready = c.in_ok-serve_frame.ensures.ready;
       rests = λ told. c.in_ok-serve_frame.ensures.rests (subst (λ (k : Kind). IsTrue k.tells) (sym inv.disk.same) told);
       so_far = λ told.

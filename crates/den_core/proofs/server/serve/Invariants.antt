@@ -1,7 +1,10 @@
-use Rattle.std.proofs.Common.{◌≡◌, ◌-◌, IsTrue}
+use Rattle.std.proofs.Common.{◌≡◌, ◌+◌, ◌-◌, ◌≤◌, length, IsTrue}
+use Rattle.den_disk.specs.declared.place.Family.TheVariants.{Snapshot as snapshot_family}
+use Rattle.den_disk.specs.Families.{SameOf}
 use Rattle.den_disk.specs.Goes.{DiskGoesOn, LinkGoesOn, ClockGoesOn, added}
 use Rattle.den_model.specs.Crash.{Tells}
 use Rattle.den_model.specs.Frames.{frames}
+use Rattle.den_core.specs.Weights.{served_weight}
 use Rattle.den_core.proofs.FramesSoFar.{SoFar}
 use Rattle.den_core.proofs.server.serve.Given as goal
 
@@ -14,8 +17,11 @@ invariant-frames g l =
     record {
       limit : l.reader.limit ≡ l.limit;
       disk : DiskGoesOn D.kind D.moment D.images D.faults l.fn.disk l.disk;
+      snapshot : IsTrue (D.kind l.fn.disk).tells → SameOf snapshot_family (D.content l.fn.disk).reading (D.content l.disk).reading;
       link : LinkGoesOn L.tells L.sent L.budget L.taken L.faults l.fn.link l.link;
       clock : ClockGoesOn C.tells C.readings l.fn.clock l.clock;
+      counted : IsTrue (L.tells l.fn.link) → L.taken l.link + length (L.left l.link) ≡ L.taken l.fn.link + length (L.left l.fn.link);
+      weight : S.weight l.stepper ≤ served_weight (S.weight l.fn.stepper) (L.taken l.link - L.taken l.fn.link);
       ready : S.ready l.stepper;
       rests : IsTrue (D.kind l.fn.disk).tells → S.rests l.stepper (D.content l.disk);
       so_far : Tells (D.kind l.fn.disk).tells (L.tells l.fn.link) (C.tells l.clock)

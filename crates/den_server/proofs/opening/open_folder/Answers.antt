@@ -1,60 +1,134 @@
-use Rattle.std.proofs.Common.{IsTrue, ◌≡◌, true, ℕ, [], refl, sym, subst, ap, ◌∙◌}
+use Rattle.std.proofs.Common.{IsTrue, IsOk, le_trans, ◌≡◌, ◌≤◌, ◌+◌, ◌*◌, ℕ, [], Some, refl, sym, subst, ap, ◌∙◌, arith}
 use Rattle.den_disk.specs.Files.{Kind, Files}
-use Rattle.den_model.specs.declared.running.Running.{Running}
-use Rattle.den_model.specs.Kv.{Kv, nothing}
-use Rattle.den_model.specs.Image.{durable_in}
-use Rattle.den_codec.specs.Standard.{entered}
-use Rattle.den_server.specs.Empty.{is_folder_empty}
-use Rattle.den_server.proofs.Opened.{rose_then, failure_refused, fresh_stands, some_same, kv_is, if_ok_two, if_err_weaker}
-use Rattle.den_server.proofs.Runs.{no_call, folder_stands, only_opened, opened_then}
-use Rattle.den_core.specs.Opening.{opening_refusal, IsOpeningFailure}
 use Rattle.den_disk.specs.Goes.{Rose}
+use Rattle.den_model.specs.Image.{durable_in, durable}
+use Rattle.den_model.specs.Kv.{Durable, Kv}
+use Rattle.den_model.specs.declared.running.Running.{Running}
+use Rattle.den_codec.specs.declared.error.Error.{Error}
+use Rattle.den_codec.specs.Standard.{entered}
+use Rattle.den_core.specs.Opening.{opening_refusal, IsOpeningFailure}
 use Rattle.den_store.specs.FileLog.{file_log, file_place}
 use Rattle.den_store.specs.FileMeta.{file_state}
+use Rattle.den_disk.specs.Families.{NoNewImages}
+use Rattle.den_codec.specs.Full.{IsHeavy}
+use Rattle.den_model.specs.Log.{above}
+use Rattle.den_model.specs.Sizes.{entries_size, files_size, store_rise}
+use Rattle.den_server.specs.Opening.{refusal_in, opened_weight, IsUnwritten}
+use Rattle.den_server.proofs.Ended.{rose_then, some_same, kv_is}
+use Rattle.den_server.proofs.Refused.{read_refusal, read_durable, folder_refused, folder_light, failure_refused, some_refused, heavier, if_err_weaker, if_ok_weaker, if_ok_two, if_ok_on, above_size}
+use Rattle.den_server.proofs.Settled.{no_call, never_settles, settled_survives}
+use Rattle.den_server.proofs.Surviving.{opening_then}
 use Rattle.den_server.proofs.opening.open_folder.Goals as goal
 
-pub returns-in_err-running-clause-survives : goal.returns-in_err-running-clause-survives
-returns-in_err-running-clause-survives g c = λ tells empty.
+-- ---- what a crash leaves
+
+pub returns-in-Err-clause-opening : goal.returns-in-Err-clause-opening
+returns-in-Err-clause-opening g c = λ kept told stands.
     let D = g.D.Disk in
     let disk = c.args.disk.now in
-    only_opened durable_in (D.images disk) (D.images disk) (D.moment disk) (D.moment disk) (entered c.args.config.now nothing) (no_call (D.images disk) (D.moment disk))
-    (folder_stands (D.images disk) (D.moment disk) (D.content disk) (λ files. g.met.D.Disk.images_now disk files tells) empty)
+    settled_survives durable_in (D.images disk) (D.images disk) (D.moment disk) (D.moment disk) _ _ (D.content disk).reading (entered c.args.config.now kept) stands (no_call (D.images disk) (D.moment disk))
+    (never_settles (D.images disk) (D.moment disk) (D.moment disk) _ _ (D.content disk).reading (omega arith) (λ ok. cc ok) refl)
 
-pub returns-in_err-stores-clause-survives : goal.returns-in_err-stores-clause-survives
-returns-in_err-stores-clause-survives g c = λ tells empty.
-    let D = g.D.Disk in
-    let disk = c.args.disk.now in
-    only_opened durable_in (D.images disk) (D.images c.open_stores.new.disk) (D.moment disk) (D.moment c.open_stores.new.disk) (entered c.args.config.now nothing) (c.open_stores.ensures.images tells)
-    (folder_stands (D.images disk) (D.moment disk) (D.content disk) (λ files. g.met.D.Disk.images_now disk files tells) empty)
-
-pub returns-clause-survives : goal.returns-clause-survives
-returns-clause-survives g c = λ tells empty.
+pub returns-in-Err-open_stores-clause-opening : goal.returns-in-Err-open_stores-clause-opening
+returns-in-Err-open_stores-clause-opening g c = λ kept told stands.
     let D = g.D.Disk in
     let disk = c.args.disk.now in
     let mid = c.open_stores.new.disk in
-    let tells1 : IsTrue (D.kind mid).tells = subst (λ (k : Kind). IsTrue k.tells) (sym c.open_stores.ensures.disk.same) tells in
-    let goes = c.recover.ensures.disk.told tells1 in
-    let start = entered c.args.config.now nothing in
-    opened_then durable_in (D.images mid) (D.images c.recover.new.disk) (D.moment disk) (D.moment disk) (D.moment mid) (D.moment c.recover.new.disk) [] start
-    (record { durable = nothing; running = c.in_ok-running.running }) (λ (k : Kv). [])
-    refl (c.open_stores.ensures.disk.told tells).later goes.later goes.past
-    (only_opened durable_in (D.images disk) (D.images mid) (D.moment disk) (D.moment mid) start (c.open_stores.ensures.images tells)
-    (folder_stands (D.images disk) (D.moment disk) (D.content disk) (λ files. g.met.D.Disk.images_now disk files tells) empty))
-    (ap (λ (r : Running). record { durable = nothing; running = r }) c.in_ok-running.ensures.running)
-    (c.recover.ensures.survives nothing tells1 (fresh_stands _ _ _ (c.in_ok-stores.ensures.fresh tells empty)))
+    settled_survives durable_in (D.images disk) (D.images mid) (D.moment disk) (D.moment mid) _ _ (D.content disk).reading (entered c.args.config.now kept) stands (c.open_stores.ensures.images told)
+    (c.in-Err-open_stores.ensures.settles told)
+
+pub returns-clause-opening : goal.returns-clause-opening
+returns-clause-opening g c = λ kept told stands.
+    let D = g.D.Disk in
+    let disk = c.args.disk.now in
+    let mid = c.open_stores.new.disk in
+    let told1 : IsTrue (D.kind mid).tells = subst (λ (k : Kind). IsTrue k.tells) (sym c.open_stores.ensures.disk.same) told in
+    let goes = c.recover.ensures.disk.told told1 in
+    let start = entered c.args.config.now kept in
+    let joint = read_durable (D.content disk).reading _ _ _ (c.in-Ok-open_stores.ensures.read told) in
+    opening_then durable_in (D.images disk) (D.images mid) (D.images c.recover.new.disk) (D.moment disk) (D.moment mid) (D.moment c.recover.new.disk) _ _ _ _ [] start
+    (record { durable = kept; running = c.in-Ok.running }) (λ (k : Kv). []) refl goes.later goes.past
+    (settled_survives durable_in (D.images disk) (D.images mid) (D.moment disk) (D.moment mid) _ _ (D.content disk).reading start stands (c.open_stores.ensures.images told)
+    (c.in-Ok-open_stores.ensures.settles told))
+    (ap (λ (r : Running). record { durable = kept; running = r }) c.in-Ok.ensures.running)
+    (c.recover.ensures.survives kept told1 (sym joint ∙ stands))
+
+-- ---- what the engine holds
 
 pub returns-clause-kv : goal.returns-clause-kv
 returns-clause-kv g c = if_ok_two c.recover.result _ _ _
-    (λ engine opened running tells empty. kv_is _ nothing _ (some_same _ _ nothing opened (fresh_stands _ _ _ (c.in_ok-stores.ensures.fresh tells empty))) (running ∙ c.in_ok-running.ensures.running))
+    (λ engine opened running kept told stands. kv_is _ kept _
+    (some_same _ _ kept opened (sym (read_durable (g.D.Disk.content c.args.disk.now).reading _ _ _ (c.in-Ok-open_stores.ensures.read told)) ∙ stands))
+    (running ∙ c.in-Ok.ensures.running))
     c.recover.ensures.opened c.recover.ensures.running
+
+-- what the stores weighed, and the entries that were applied
+lighter : (log meta state entries more bytes : ℕ) → log + meta + state ≤ 768 + 4 * bytes → entries ≤ bytes → more ≤ entries → log + meta + state + store_rise more ≤ opened_weight bytes
+lighter log meta state entries more bytes stores all some = omega (arith, stores, all, some)
+
+pub returns-clause-weight : goal.returns-clause-weight
+returns-clause-weight g c = if_ok_weaker c.recover.result _ _
+    (λ engine weight told.
+    let stores = c.in-Ok-open_stores.stores in
+    let more = entries_size (above stores.state.map.mark.index (file_log stores.log).entries) in
+    let got : engine.log.gate.end + engine.meta.gate.end + engine.state.gate.end ≤ stores.log.gate.end + stores.meta.gate.end + stores.state.gate.end + store_rise more = weight in
+    let most = lighter stores.log.gate.end stores.meta.gate.end stores.state.gate.end (entries_size (file_log stores.log).entries) more (files_size (g.D.Disk.content c.args.disk.now).reading)
+    (c.in-Ok-open_stores.ensures.weight told) (c.in-Ok-open_stores.ensures.entries told) (above_size stores.state.map.mark.index (file_log stores.log).entries) in
+    le_trans got most)
+    c.recover.ensures.weight
+
+pub returns-clause-heavy : goal.returns-clause-heavy
+returns-clause-heavy g c = λ told. if_err_weaker c.recover.result _ _
+    (λ e heavy.
+    let stores = c.in-Ok-open_stores.stores in
+    let more = entries_size (above stores.state.map.mark.index (file_log stores.log).entries) in
+    heavier (g.D.Disk.kind c.args.disk.now).limit (stores.log.gate.end + stores.meta.gate.end + stores.state.gate.end + store_rise more) _ e
+    (lighter stores.log.gate.end stores.meta.gate.end stores.state.gate.end (entries_size (file_log stores.log).entries) more (files_size (g.D.Disk.content c.args.disk.now).reading)
+    (c.in-Ok-open_stores.ensures.weight told) (c.in-Ok-open_stores.ensures.entries told) (above_size stores.state.map.mark.index (file_log stores.log).entries))
+    (subst (λ (k : Kind). IsHeavy k.limit (stores.log.gate.end + stores.meta.gate.end + stores.state.gate.end + store_rise more) e) c.open_stores.ensures.disk.same heavy))
+    c.recover.ensures.heavy
+
+-- ---- why files are refused
+
+pub returns-clause-accepted : goal.returns-clause-accepted
+returns-clause-accepted g c = if_ok_on c.recover.result _ _
+    (λ engine none told. read_refusal (g.D.Disk.content c.args.disk.now).reading _ _ _ _ (c.in-Ok-open_stores.ensures.read told) (c.in-Ok-open_stores.ensures.place told) ∙ none)
+    c.recover.ensures.unrefused
+
+pub returns-in-Err-open_stores-clause-refused : goal.returns-in-Err-open_stores-clause-refused
+returns-in-Err-open_stores-clause-refused g c =
+    let D = g.D.Disk in
+    let disk = c.args.disk.now in
+    folder_refused (Rose (D.faults disk) (D.faults c.open_stores.new.disk)) (IsTrue (D.kind disk).tells) (D.kind disk).limit (refusal_in (D.content disk).reading) c.in-Err-open_stores.error
+    c.in-Err-open_stores.ensures.refused
+
+pub returns-in-Err-open_stores-clause-heavy : goal.returns-in-Err-open_stores-clause-heavy
+returns-in-Err-open_stores-clause-heavy g c = λ told.
+    let D = g.D.Disk in
+    let disk = c.args.disk.now in
+    folder_light (Rose (D.faults disk) (D.faults c.open_stores.new.disk)) (IsTrue (D.kind disk).tells) (refusal_in (D.content disk).reading) _ _ c.in-Err-open_stores.error
+    c.in-Err-open_stores.ensures.refused
 
 pub returns-clause-refused : goal.returns-clause-refused
 returns-clause-refused g c = if_err_weaker c.recover.result _ _
     (λ e failure.
-    let stores = c.in_ok-stores.stores in
-    let rose = Rose (g.D.Disk.faults c.open_stores.new.disk) (g.D.Disk.faults c.recover.new.disk) in
+    let D = g.D.Disk in
+    let stores = c.in-Ok-open_stores.stores in
+    let rose = Rose (D.faults c.open_stores.new.disk) (D.faults c.recover.new.disk) in
     let refusal = opening_refusal (file_place stores.log) (file_log stores.log) (file_state stores.meta) stores.state.map in
-    failure_refused rose _ _ _ (file_place stores.log) (file_log stores.log) (file_state stores.meta) stores.state.map e (λ r. rose_then _ _ _ c.open_stores.ensures.disk.counts r)
-    (λ empty. c.in_ok-stores.ensures.fresh empty.0 empty.1)
+    failure_refused rose _ _ _ (file_place stores.log) (refusal_in (D.content c.args.disk.now).reading) (file_log stores.log) (file_state stores.meta) stores.state.map e
+    (λ r. rose_then _ _ _ c.open_stores.ensures.disk.counts r)
+    (λ told. read_refusal (D.content c.args.disk.now).reading _ _ _ _ (c.in-Ok-open_stores.ensures.read told) (c.in-Ok-open_stores.ensures.place told))
     (subst (λ (k : Kind). IsOpeningFailure rose k.limit refusal e) c.open_stores.ensures.disk.same failure))
     c.recover.ensures.refused
+
+pub returns-clause-untouched : goal.returns-clause-untouched
+returns-clause-untouched g c = λ e told is.
+    let D = g.D.Disk in
+    let first = c.args.disk.now in
+    let mid = c.open_stores.new.disk in
+    let stores = c.in-Ok-open_stores.stores in
+    let some = some_refused (refusal_in (D.content first).reading) (opening_refusal (file_place stores.log) (file_log stores.log) (file_state stores.meta) stores.state.map) e
+    (read_refusal (D.content first).reading _ _ _ _ (c.in-Ok-open_stores.ensures.read told) (c.in-Ok-open_stores.ensures.place told)) is in
+    subst (λ d. IsUnwritten (D.content first) (D.content d) (NoNewImages (D.images first) (D.images d) (D.moment first) (D.moment d))) (sym (c.recover.ensures.untouched some))
+    (record { content = c.open_stores.ensures.spares told; images = c.open_stores.ensures.images told })

@@ -1,52 +1,103 @@
-use Rattle.std.proofs.Common.{IsTrue, ◌≡◌, true, None, refl, sym, subst, ap, ◌∙◌}
-use Rattle.den_disk.specs.Files.{Kind}
-use Rattle.den_model.specs.Log.{empty_log}
-use Rattle.den_model.specs.MapState.{empty_map}
-use Rattle.den_model.specs.Image.{log_in, hard_state_held, map_in}
-use Rattle.den_server.proofs.Fresh.{empty_log_in, empty_hard_state_held, empty_map_in}
-use Rattle.den_server.proofs.Opened.{rose_then, same_reading, unread_refused, state_refused, log_sound, meta_sound, ok_same}
+use Rattle.std.proofs.Common.{IsTrue, ◌≡◌, ◌≤◌, ◌+◌, ⊎_elim, ℕ, refl, sym, subst, ap, ◌∙◌, arith}
+use Rattle.den_disk.specs.declared.place.Family.TheVariants as family
+use Rattle.den_disk.specs.Place.{place_number}
+use Rattle.den_disk.specs.Files.{Files, Kind}
+use Rattle.den_model.specs.Image.{map_in, slot_of}
+use Rattle.den_model.specs.Sizes.{family_size}
+use Rattle.den_store.specs.FileLog.{file_log}
+use Rattle.den_store.specs.FileMeta.{file_state}
+use Rattle.den_server.proofs.Ended.{rose_then}
+use Rattle.den_server.proofs.Refused.{storage_unread, state_unread, unread_refused, state_refused}
+use Rattle.den_server.proofs.Settled.{same_reading, settled_or_same, never_settles, settles_now, settles_on}
 use Rattle.den_server.proofs.opening.open_stores.Goals as goal
+
+-- ---- why the files are refused
 
 pub returns-in-Err-clause-refused : goal.returns-in-Err-clause-refused
 returns-in-Err-clause-refused g c =
     let reading = (g.D.Disk.content c.args.disk.now).reading in
-    unread_refused _ _ _ _ _ c.in-Err.error (λ r. r) (λ place offset h empty. log_sound _ reading reading offset refl (h empty.0).1 empty) c.in-Err.ensures.refused
+    unread_refused _ _ _ _ _ c.in-Err.error (λ r. r) (λ place offset h told. storage_unread reading place offset (h told)) c.in-Err.ensures.refused
 
 pub returns-in-Err-new-clause-refused : goal.returns-in-Err-new-clause-refused
 returns-in-Err-new-clause-refused g c =
     let D = g.D.Disk in
     let d0 = c.args.disk.now in
     let d1 = c.new.new.disk in
+    let storage = c.in-Ok.storage in
     let goes = λ (tells : IsTrue (D.kind d0).tells). subst (λ (k : Kind). IsTrue k.tells) (sym c.new.ensures.disk.same) tells in
-    unread_refused _ _ _ _ _ c.in-Err-new.error (λ r. rose_then _ _ _ c.new.ensures.disk.counts r)
-    (λ place offset h empty. meta_sound _ (D.content d0).reading (D.content d1).reading offset (same_reading (D.content d0) (D.content d1) (c.new.ensures.spares empty.0)) (h (goes empty.0)).1 empty)
+    state_refused _ _ _ _ (D.kind d1).tells (D.content d1).reading c.in-Err-new.error
+    (λ r. rose_then _ _ _ c.new.ensures.disk.counts r)
+    (λ place offset h told.
+    let same = same_reading (D.content d0) (D.content d1) (c.new.ensures.spares told) in
+    let found = h (goes told) in
+    state_unread (D.content d0).reading (file_log storage.log) (file_state storage.meta) place offset (c.in-Ok.ensures.log told) (c.in-Ok.ensures.hard_state told)
+    (found.0 ∙ ap (λ (f : Files). place_number (slot_of family.State f)) same) (sym (ap map_in same) ∙ found.1))
     c.in-Err-new.ensures.refused
 
-pub returns-in-Err-new-2-clause-refused : goal.returns-in-Err-new-2-clause-refused
-returns-in-Err-new-2-clause-refused g c =
+-- ---- what was read
+
+pub returns-in-Ok-new-clause-read : goal.returns-in-Ok-new-clause-read
+returns-in-Ok-new-clause-read g c = λ told.
+    let D = g.D.Disk in
+    let c0 = D.content c.args.disk.now in
+    let c1 = D.content c.new.new.disk in
+    let told1 : IsTrue (D.kind c.new.new.disk).tells = subst (λ (k : Kind). IsTrue k.tells) (sym c.new.ensures.disk.same) told in
+    let one : c1.reading ≡ c0.reading = same_reading c0 c1 (c.new.ensures.spares told) in
+    record {
+      log = c.in-Ok.ensures.log told;
+      hard_state = c.in-Ok.ensures.hard_state told;
+      map = sym (ap map_in one) ∙ c.in-Ok-new.ensures.opened told1;
+    }
+
+pub returns-in-Ok-new-clause-weight : goal.returns-in-Ok-new-clause-weight
+returns-in-Ok-new-clause-weight g c = λ told.
+    let D = g.D.Disk in
+    let c0 = D.content c.args.disk.now in
+    let c1 = D.content c.new.new.disk in
+    let told1 : IsTrue (D.kind c.new.new.disk).tells = subst (λ (k : Kind). IsTrue k.tells) (sym c.new.ensures.disk.same) told in
+    let one : c1.reading ≡ c0.reading = same_reading c0 c1 (c.new.ensures.spares told) in
+    let state : family_size family.State c1.reading ≡ family_size family.State c0.reading = ap (family_size family.State) one in
+    omega (arith, c.in-Ok.ensures.log_weight told, c.in-Ok.ensures.meta_weight told, c.in-Ok-new.ensures.weight told1, state)
+
+-- ---- from which moment on a crash leaves what was read
+
+pub returns-in-Err-clause-settles : goal.returns-in-Err-clause-settles
+returns-in-Err-clause-settles g c = λ told.
+    let D = g.D.Disk in
+    let d0 = c.args.disk.now in
+    let d1 = c.new.new.disk in
+    let told1 : IsTrue (D.kind d1).tells = subst (λ (k : Kind). IsTrue k.tells) (sym c.new.ensures.disk.same) told in
+    let later : D.moment d0 ≤ D.moment d1 = (c.new.ensures.disk.told told).later in
+    ⊎_elim
+    (λ same. never_settles (D.images d1) (D.moment d0) (D.moment d1) _ _ (D.content d0).reading later (λ ok. cc ok) same)
+    (λ none. settles_now (D.images d1) (D.moment d0) (D.moment d1) _ _ (D.content d0).reading (D.content d1) later (λ files. g.met.D.Disk.images_now d1 files told1)
+    (same_reading (D.content d0) (D.content d1) (c.new.ensures.spares told)) none)
+    (settled_or_same (Unit {0}) c.in-Err.error (D.content d0) (D.content d1) (c.in-Err.ensures.settled told))
+
+pub returns-in-Err-new-clause-settles : goal.returns-in-Err-new-clause-settles
+returns-in-Err-new-clause-settles g c = λ told.
     let D = g.D.Disk in
     let d0 = c.args.disk.now in
     let d1 = c.new.new.disk in
     let d2 = c.new-2.new.disk in
-    let first = λ (tells : IsTrue (D.kind d0).tells). subst (λ (k : Kind). IsTrue k.tells) (sym c.new.ensures.disk.same) tells in
-    let goes = λ (tells : IsTrue (D.kind d0).tells). subst (λ (k : Kind). IsTrue k.tells) (sym c.new-2.ensures.disk.same) (first tells) in
-    state_refused _ _ _ (D.kind d0).tells (D.kind d2).tells (D.content d0).reading (D.content d2).reading c.in-Err-new-2.error
-    (λ r. rose_then _ _ _ c.new.ensures.disk.counts (rose_then _ _ _ c.new-2.ensures.disk.counts r)) goes
-    (λ tells. same_reading (D.content d1) (D.content d2) (c.new-2.ensures.spares (first tells)) ∙ same_reading (D.content d0) (D.content d1) (c.new.ensures.spares tells))
-    c.in-Err-new-2.ensures.refused
+    let told1 : IsTrue (D.kind d1).tells = subst (λ (k : Kind). IsTrue k.tells) (sym c.new.ensures.disk.same) told in
+    let goes = c.new-2.ensures.disk.told told1 in
+    settles_on (D.images d1) (D.images d2) (D.moment d0) (D.moment d1) (D.moment d2) (Unit {0}) _ (D.content d1 ≡ D.content d0) _ (D.content d0).reading goes.later (record {}) goes.past
+    (c.new-2.ensures.images told1)
+    (settles_now (D.images d1) (D.moment d0) (D.moment d1) _ (D.content d1 ≡ D.content d0) (D.content d0).reading (D.content d1) (c.new.ensures.disk.told told).later
+    (λ files. g.met.D.Disk.images_now d1 files told1)
+    (same_reading (D.content d0) (D.content d1) (c.new.ensures.spares told)) (c.in-Ok.ensures.settled told))
 
-pub returns-in-Ok-new-2-clause-fresh : goal.returns-in-Ok-new-2-clause-fresh
-returns-in-Ok-new-2-clause-fresh g c = λ tells empty.
+pub returns-in-Ok-new-clause-settles : goal.returns-in-Ok-new-clause-settles
+returns-in-Ok-new-clause-settles g c = λ told.
     let D = g.D.Disk in
-    let c0 = D.content c.args.disk.now in
-    let c1 = D.content c.new.new.disk in
-    let c2 = D.content c.new-2.new.disk in
-    let tells1 : IsTrue (D.kind c.new.new.disk).tells = subst (λ (k : Kind). IsTrue k.tells) (sym c.new.ensures.disk.same) tells in
-    let tells2 : IsTrue (D.kind c.new-2.new.disk).tells = subst (λ (k : Kind). IsTrue k.tells) (sym c.new-2.ensures.disk.same) tells1 in
-    let one : c1.reading ≡ c0.reading = same_reading c0 c1 (c.new.ensures.spares tells) in
-    let two : c2.reading ≡ c0.reading = same_reading c1 c2 (c.new-2.ensures.spares tells1) ∙ one in
-    record {
-      log = ok_same (log_in c0.reading) _ empty_log (c.in-Ok.ensures.opened tells) (empty_log_in c0.reading empty);
-      hard_state = ok_same (hard_state_held c1.reading) _ None (c.in-Ok-new.ensures.opened tells1) (ap hard_state_held one ∙ empty_hard_state_held c0.reading empty);
-      map = ok_same (map_in c2.reading) _ empty_map (c.in-Ok-new-2.ensures.opened tells2) (ap map_in two ∙ empty_map_in c0.reading empty);
-    }
+    let d0 = c.args.disk.now in
+    let d1 = c.new.new.disk in
+    let d2 = c.new-2.new.disk in
+    let told1 : IsTrue (D.kind d1).tells = subst (λ (k : Kind). IsTrue k.tells) (sym c.new.ensures.disk.same) told in
+    let goes = c.new-2.ensures.disk.told told1 in
+    settles_on (D.images d1) (D.images d2) (D.moment d0) (D.moment d1) (D.moment d2) (Unit {0}) _ (D.content d1 ≡ D.content d0) _ (D.content d0).reading goes.later (record {}) goes.past
+    (c.new-2.ensures.images told1)
+    (settles_now (D.images d1) (D.moment d0) (D.moment d1) _ (D.content d1 ≡ D.content d0) (D.content d0).reading (D.content d1) (c.new.ensures.disk.told told).later
+    (λ files. g.met.D.Disk.images_now d1 files told1)
+    (same_reading (D.content d0) (D.content d1) (c.new.ensures.spares told)) (c.in-Ok.ensures.settled told))

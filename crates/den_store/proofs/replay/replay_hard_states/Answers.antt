@@ -1,4 +1,4 @@
-use Rattle.std.proofs.Common.{◌≡◌, ℕ, List, Option, Some, None, Ok, Err, refl, ◌∙◌, sym, ap, length, arith}
+use Rattle.std.proofs.Common.{ℕ, List, Err, refl, ◌∙◌, sym, ap, length, arith}
 use Rattle.den_model.specs.Image.{hard_state_from}
 use Rattle.den_model.specs.Reading.{hard_state_in}
 use Rattle.den_store.proofs.Joins.{hard_goes_on, hard_stops, offset_goes_on, offset_is}

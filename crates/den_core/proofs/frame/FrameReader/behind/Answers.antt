@@ -1,4 +1,4 @@
-use Rattle.std.proofs.Common.{◌≡◌, ◌<◌, ◌≤◌, true, rules, ◌∙◌, ap, sym, subst}
+use Rattle.std.proofs.Common.{◌<◌, ◌≤◌, rules, ◌∙◌, ap, subst}
 use Rattle.den_model.specs.Frames.{asked}
 use Rattle.den_model.specs.Reading.{request_in}
 use Rattle.den_core.proofs.FirstFrame.{behind_long, behind_read}

@@ -1,4 +1,4 @@
-use Rattle.std.proofs.Common.{◌≡◌, IsTrue, arith, sym, subst}
+use Rattle.std.proofs.Common.{IsTrue, arith, sym, subst}
 use Rattle.den_core.proofs.FirstFrame.{frames_tail, frames_first}
 use Rattle.den_core.proofs.frame.FrameReader.next.Goals as goal
 

@@ -1,84 +1,151 @@
-use Rattle.std.proofs.Common.{IsTrue, ◌≡◌, ◌≤◌, true, List, [], ℕ, length, sym, subst, ap, ◌∙◌, arith}
+use Rattle.std.proofs.Common.{IsTrue, IsOk, ◌≡◌, ◌⊎◌, ◌≤◌, ◌+◌, ◌-◌, List, [], ℕ, length, refl, sym, subst, ap, ◌∙◌, arith}
 use Rattle.std.proofs.lemmas.Result.{on_ok_weaker}
 use Rattle.den_disk.specs.Files.{Kind, Files, Content}
-use Rattle.den_disk.specs.Goes.{added}
+use Rattle.den_disk.specs.Goes.{Rose, added}
 use Rattle.den_model.specs.Crash.{Tells, Survives, IsServed}
-use Rattle.den_core.specs.Parts.{kv_of}
-use Rattle.den_store.specs.FileMeta.{file_state}
 use Rattle.den_model.specs.Frames.{frames}
 use Rattle.den_model.specs.Image.{durable_in}
-use Rattle.den_model.specs.Kv.{Kv, nothing}
+use Rattle.den_model.specs.Kv.{Kv}
 use Rattle.den_model.specs.Plan.{plan_over}
+use Rattle.den_model.specs.Sizes.{files_size}
 use Rattle.den_codec.specs.declared.config.RaftNodeConfig.{RaftNodeConfig}
+use Rattle.den_codec.specs.Full.{IsHeavy}
 use Rattle.den_codec.specs.Standard.{entered}
-use Rattle.den_server.specs.Empty.{is_folder_empty}
-use Rattle.den_server.proofs.Runs.{stays_none, folder_stands, only_opened, opened_then, no_reading, front_sent, reading_image, served_from}
+use Rattle.den_core.specs.Parts.{kv_of}
+use Rattle.den_core.specs.Refusals.{IsServeRefusal}
+use Rattle.den_core.specs.Weights.{run_weight}
+use Rattle.den_store.specs.FileMeta.{file_state}
+use Rattle.den_server.specs.Causes.{IsRunRefusal}
+use Rattle.den_server.specs.Opening.{refusal_in, SurvivesOpening}
+use Rattle.den_server.proofs.Ended.{rose_then, opening_ended, serving_ended, away, refused_not_read, full_serving, full_opening, completed}
+use Rattle.den_server.proofs.Refused.{if_err_weaker}
+use Rattle.den_server.proofs.Surviving.{reading_image, of_node, opening_then, no_reading, all_along, opening_front, served_from}
 use Rattle.den_server.proofs.standalone.StandaloneEngine.run.Goals as goal
 
-pub returns-in_err-is_folder_empty-clause-any_moment : goal.returns-in_err-is_folder_empty-clause-any_moment
-returns-in_err-is_folder_empty-clause-any_moment g c = λ told empty.
-    let D = g.D.Disk in
-    let disk = c.args.disk.now in
-    let start = entered c.args.config.now.node nothing in
-    no_reading durable_in (D.images c.is_folder_empty.new.disk) (D.moment disk) (D.moment c.is_folder_empty.new.disk) (g.L.Link.sent c.args.link.now) start
-    c.args.config.now.node.network.max_frame_size (g.L.Link.left c.args.link.now) (g.C.Clock.readings c.args.clock.now)
-    (only_opened durable_in (D.images disk) (D.images c.is_folder_empty.new.disk) (D.moment disk) (D.moment c.is_folder_empty.new.disk) start
-    (stays_none D.content D.moment D.images disk c.is_folder_empty.new.disk (c.is_folder_empty.ensures.stays told.disk_tells))
-    (folder_stands (D.images disk) (D.moment disk) (D.content disk) (λ files. g.met.D.Disk.images_now disk files told.disk_tells) empty))
+-- ---- the opening was refused
 
-pub returns-clause-any_moment : goal.returns-clause-any_moment
-returns-clause-any_moment g c = λ told empty.
+pub returns-in-Err-clause-opening : goal.returns-in-Err-clause-opening
+returns-in-Err-clause-opening g c = λ kept told stands.
     let D = g.D.Disk in
     let first = c.args.disk.now in
-    let asked = c.is_folder_empty.new.disk in
+    let last = c.open_folder.new.disk in
+    no_reading durable_in (D.images first) (D.images last) (D.moment first) (D.moment last) _ _ (g.L.Link.sent c.args.link.now) (entered c.args.config.now.node kept)
+    c.args.config.now.node.network.max_frame_size (g.L.Link.left c.args.link.now) (g.C.Clock.readings c.args.clock.now)
+    (of_node durable_in (D.images first) (D.images last) (D.moment first) (D.moment last) _ _ _ _ kept c.node.ensures (c.in-Err.ensures.opening kept told.disk_tells stands))
+
+pub returns-in-Err-clause-any_moment : goal.returns-in-Err-clause-any_moment
+returns-in-Err-clause-any_moment g c = λ kept told stands.
+    let D = g.D.Disk in
+    let first = c.args.disk.now in
+    all_along durable_in (D.images first) (D.images c.open_folder.new.disk) (D.moment first) (D.moment c.open_folder.new.disk) _ _ _ _ _ stands
+    (returns-in-Err-clause-opening g c kept told
+    (stands.each (D.content first).reading ((g.met.D.Disk.images_now first (D.content first).reading told.disk_tells).1 (reading_image (D.content first)))))
+
+pub returns-in-Err-clause-prefix : goal.returns-in-Err-clause-prefix
+returns-in-Err-clause-prefix g c = λ kept told stands.
+    let D = g.D.Disk in
+    let first = c.args.disk.now in
+    let last = c.open_folder.new.disk in
+    let last_tells : IsTrue (D.kind last).tells = subst (λ (k : Kind). IsTrue k.tells) (sym c.open_folder.ensures.disk.same) told.disk_tells in
+    opening_front durable_in (D.images first) (D.images last) (D.moment first) (D.moment last) _ _ _ _ _ (D.content last).reading
+    ((g.met.D.Disk.images_now last (D.content last).reading last_tells).1 (reading_image (D.content last)))
+    (returns-in-Err-clause-opening g c kept told stands)
+
+pub returns-in-Err-clause-refused : goal.returns-in-Err-clause-refused
+returns-in-Err-clause-refused g c =
+    let D = g.D.Disk in
+    let first = c.args.disk.now in
+    opening_ended (Rose (D.faults first) (D.faults c.open_folder.new.disk)) (Rose (g.L.Link.faults c.args.link.now) (g.L.Link.faults c.args.link.now)) (IsTrue (D.kind first).tells) (D.kind first).limit
+    (refusal_in (D.content first).reading) c.in-Err.error c.in-Err.ensures.refused
+
+pub returns-in-Err-clause-turned_away : goal.returns-in-Err-clause-turned_away
+returns-in-Err-clause-turned_away g c = λ e told is.
+    ((record {}, away _ _ _ (refusal_in (g.D.Disk.content c.args.disk.now).reading) e c.in-Err.error told is c.in-Err.ensures.refused), c.open_folder.ensures.untouched e told is, refl, refl)
+
+pub returns-in-Err-clause-full : goal.returns-in-Err-clause-full
+returns-in-Err-clause-full g c = λ told. full_opening _ _ _ c.in-Err.error (c.in-Err.ensures.heavy told)
+
+-- ---- the run
+
+pub returns-clause-opening : goal.returns-clause-opening
+returns-clause-opening g c = λ kept told stands.
+    let D = g.D.Disk in
+    let first = c.args.disk.now in
     let opened = c.open_folder.new.disk in
-    let stays = c.is_folder_empty.ensures.stays told.disk_tells in
-    let asked_tells : IsTrue (D.kind asked).tells = subst (λ (k : Kind). IsTrue k.tells) (sym c.is_folder_empty.ensures.kind) told.disk_tells in
-    let opened_tells : IsTrue (D.kind opened).tells = subst (λ (k : Kind). IsTrue k.tells) (sym c.open_folder.ensures.disk.same) asked_tells in
-    let still : is_folder_empty (D.content asked).reading ≡ true = subst (λ (k : Content). is_folder_empty k.reading ≡ true) (sym stays.content_same) empty in
+    let last = c.run_from.new.disk in
+    let opened_tells : IsTrue (D.kind opened).tells = subst (λ (k : Kind). IsTrue k.tells) (sym c.open_folder.ensures.disk.same) told.disk_tells in
     let here : Tells (D.kind opened).tells (g.L.Link.tells c.args.link.now) (g.C.Clock.tells c.run_from.new.clock) =
     record { disk_tells = opened_tells; link_tells = told.link_tells; clock_tells = told.clock_tells } in
     let readings = added (g.C.Clock.readings c.args.clock.now) (g.C.Clock.readings c.run_from.new.clock) in
+    let sent = added (g.L.Link.sent c.args.link.now) (g.L.Link.sent c.run_from.new.link) in
     let goes = c.run_from.ensures.disk.told opened_tells in
-    opened_then durable_in (D.images opened) (D.images c.run_from.new.disk) (D.moment first) (D.moment asked) (D.moment opened) (D.moment c.run_from.new.disk)
-    (added (g.L.Link.sent c.args.link.now) (g.L.Link.sent c.run_from.new.link)) (entered c.args.config.now.node nothing) _
+    opening_then durable_in (D.images first) (D.images opened) (D.images last) (D.moment first) (D.moment opened) (D.moment last) _ _ _ _
+    sent (entered c.args.config.now.node kept) _
     (λ (k : Kv). plan_over k c.args.config.now.node.network.max_frame_size (g.L.Link.left c.args.link.now) readings)
-    stays.moment_same (c.open_folder.ensures.disk.told asked_tells).later goes.later goes.past
-    (subst (λ (n : RaftNodeConfig). Survives durable_in (D.images opened) (D.moment asked) (D.moment opened) [] (entered n nothing) []) c.node.ensures (c.open_folder.ensures.survives asked_tells still))
-    (c.in-Ok.ensures.kv asked_tells still ∙ ap (λ (n : RaftNodeConfig). entered n nothing) c.node.ensures)
-    (subst (λ (n : RaftNodeConfig). Survives durable_in (D.images c.run_from.new.disk) (D.moment opened) (D.moment c.run_from.new.disk)
-    (added (g.L.Link.sent c.args.link.now) (g.L.Link.sent c.run_from.new.link)) (kv_of (file_state c.in-Ok.engine.meta) c.in-Ok.engine.state.map c.in-Ok.engine.running)
+    refl goes.later goes.past
+    (of_node durable_in (D.images first) (D.images opened) (D.moment first) (D.moment opened) _ _ _ _ kept c.node.ensures (c.in-Ok.ensures.opening kept told.disk_tells stands))
+    (c.in-Ok.ensures.kv kept told.disk_tells stands ∙ ap (λ (n : RaftNodeConfig). entered n kept) c.node.ensures)
+    (subst (λ (n : RaftNodeConfig). Survives durable_in (D.images last) (D.moment opened) (D.moment last)
+    sent (kv_of (file_state c.in-Ok.engine.meta) c.in-Ok.engine.state.map c.in-Ok.engine.running)
     (plan_over (kv_of (file_state c.in-Ok.engine.meta) c.in-Ok.engine.state.map c.in-Ok.engine.running) n.network.max_frame_size (g.L.Link.left c.args.link.now) readings))
     c.node-2.ensures (c.run_from.ensures.any_moment here))
 
-pub returns-clause-prefix : goal.returns-clause-prefix
-returns-clause-prefix g c = λ told empty.
+pub returns-clause-any_moment : goal.returns-clause-any_moment
+returns-clause-any_moment g c = λ kept told stands.
     let D = g.D.Disk in
-    let disk = c.run_from.new.disk in
-    let asked_tells : IsTrue (D.kind c.is_folder_empty.new.disk).tells = subst (λ (k : Kind). IsTrue k.tells) (sym c.is_folder_empty.ensures.kind) told.disk_tells in
-    let opened_tells : IsTrue (D.kind c.open_folder.new.disk).tells = subst (λ (k : Kind). IsTrue k.tells) (sym c.open_folder.ensures.disk.same) asked_tells in
-    let last_tells : IsTrue (D.kind disk).tells = subst (λ (k : Kind). IsTrue k.tells) (sym c.run_from.ensures.disk.same) opened_tells in
-    let stays = c.is_folder_empty.ensures.stays told.disk_tells in
-    let low : D.moment c.args.disk.now ≤ D.moment disk = omega (arith, stays.moment_same, (c.open_folder.ensures.disk.told asked_tells).later, (c.run_from.ensures.disk.told opened_tells).later) in
-    front_sent durable_in (D.images disk) (D.moment c.args.disk.now) (D.moment disk) _ _ _ (D.content disk).reading low
-    ((g.met.D.Disk.images_now disk (D.content disk).reading last_tells).1 (reading_image (D.content disk))) (returns-clause-any_moment g c told empty)
+    let first = c.args.disk.now in
+    all_along durable_in (D.images first) (D.images c.run_from.new.disk) (D.moment first) (D.moment c.run_from.new.disk) _ _ _ _ _ stands
+    (returns-clause-opening g c kept told
+    (stands.each (D.content first).reading ((g.met.D.Disk.images_now first (D.content first).reading told.disk_tells).1 (reading_image (D.content first)))))
+
+pub returns-clause-prefix : goal.returns-clause-prefix
+returns-clause-prefix g c = λ kept told stands.
+    let D = g.D.Disk in
+    let first = c.args.disk.now in
+    let last = c.run_from.new.disk in
+    let opened_tells : IsTrue (D.kind c.open_folder.new.disk).tells = subst (λ (k : Kind). IsTrue k.tells) (sym c.open_folder.ensures.disk.same) told.disk_tells in
+    let last_tells : IsTrue (D.kind last).tells = subst (λ (k : Kind). IsTrue k.tells) (sym c.run_from.ensures.disk.same) opened_tells in
+    opening_front durable_in (D.images first) (D.images last) (D.moment first) (D.moment last) _ _ _ _ _ (D.content last).reading
+    ((g.met.D.Disk.images_now last (D.content last).reading last_tells).1 (reading_image (D.content last)))
+    (returns-clause-opening g c kept told stands)
 
 pub returns-clause-served : goal.returns-clause-served
-returns-clause-served g c = on_ok_weaker c.run_from.result (λ served told empty.
+returns-clause-served g c = on_ok_weaker c.run_from.result (λ served kept told stands.
     let D = g.D.Disk in
-    let asked = c.is_folder_empty.new.disk in
-    let stays = c.is_folder_empty.ensures.stays told.disk_tells in
-    let asked_tells : IsTrue (D.kind asked).tells = subst (λ (k : Kind). IsTrue k.tells) (sym c.is_folder_empty.ensures.kind) told.disk_tells in
-    let opened_tells : IsTrue (D.kind c.open_folder.new.disk).tells = subst (λ (k : Kind). IsTrue k.tells) (sym c.open_folder.ensures.disk.same) asked_tells in
-    let still : is_folder_empty (D.content asked).reading ≡ true = subst (λ (k : Content). is_folder_empty k.reading ≡ true) (sym stays.content_same) empty in
+    let opened_tells : IsTrue (D.kind c.open_folder.new.disk).tells = subst (λ (k : Kind). IsTrue k.tells) (sym c.open_folder.ensures.disk.same) told.disk_tells in
     let here : Tells (D.kind c.open_folder.new.disk).tells (g.L.Link.tells c.args.link.now) (g.C.Clock.tells c.run_from.new.clock) =
     record { disk_tells = opened_tells; link_tells = told.link_tells; clock_tells = told.clock_tells } in
     let readings = added (g.C.Clock.readings c.args.clock.now) (g.C.Clock.readings c.run_from.new.clock) in
-    served_from (D.images c.run_from.new.disk) _ _ _ _ _ (entered c.args.config.now.node nothing) _
+    served_from (D.images c.run_from.new.disk) _ _ _ _ _ (entered c.args.config.now.node kept) _
     (λ (k : Kv). plan_over k c.args.config.now.node.network.max_frame_size (g.L.Link.left c.args.link.now) readings)
-    (c.in-Ok.ensures.kv asked_tells still ∙ ap (λ (n : RaftNodeConfig). entered n nothing) c.node.ensures)
+    (c.in-Ok.ensures.kv kept told.disk_tells stands ∙ ap (λ (n : RaftNodeConfig). entered n kept) c.node.ensures)
     (subst (λ (n : RaftNodeConfig). IsServed durable_in (D.images c.run_from.new.disk) (D.moment c.run_from.new.disk) (g.L.Link.left c.run_from.new.link) (length readings)
     (length (frames n.network.max_frame_size (g.L.Link.left c.args.link.now)))
     (added (g.L.Link.sent c.args.link.now) (g.L.Link.sent c.run_from.new.link)) (kv_of (file_state c.in-Ok.engine.meta) c.in-Ok.engine.state.map c.in-Ok.engine.running)
     (plan_over (kv_of (file_state c.in-Ok.engine.meta) c.in-Ok.engine.state.map c.in-Ok.engine.running) n.network.max_frame_size (g.L.Link.left c.args.link.now) readings))
     c.node-2.ensures (served here))) c.run_from.ensures.served
+
+pub returns-clause-refused : goal.returns-clause-refused
+returns-clause-refused g c = if_err_weaker c.run_from.result _ _
+    (λ e h.
+    let D = g.D.Disk in
+    let link_rose = Rose (g.L.Link.faults c.args.link.now) (g.L.Link.faults c.run_from.new.link) in
+    serving_ended (Rose (D.faults c.open_folder.new.disk) (D.faults c.run_from.new.disk)) _ link_rose _ _ (refusal_in (D.content c.args.disk.now).reading) e
+    (λ r. rose_then _ _ _ c.open_folder.ensures.disk.counts r) (λ told. c.in-Ok.ensures.accepted told)
+    (subst (λ (k : Kind). IsServeRefusal (Rose (D.faults c.open_folder.new.disk) (D.faults c.run_from.new.disk)) link_rose k.limit e) c.open_folder.ensures.disk.same h))
+    c.run_from.ensures.refused
+
+pub returns-clause-turned_away : goal.returns-clause-turned_away
+returns-clause-turned_away g c = λ e told is. absurd (refused_not_read (refusal_in (g.D.Disk.content c.args.disk.now).reading) e (c.in-Ok.ensures.accepted told) is)
+
+pub returns-clause-full : goal.returns-clause-full
+returns-clause-full g c = λ told. if_err_weaker c.run_from.result _ _
+    (λ e h.
+    let D = g.D.Disk in
+    let L = g.L.Link in
+    let engine = c.in-Ok.engine in
+    let weight = engine.log.gate.end + engine.meta.gate.end + engine.state.gate.end in
+    let taken = L.taken c.run_from.new.link - L.taken c.args.link.now in
+    full_serving (D.kind c.args.disk.now).limit weight (files_size (D.content c.args.disk.now).reading) taken e (c.in-Ok.ensures.weight told)
+    (subst (λ (k : Kind). IsHeavy k.limit (run_weight weight taken) e) c.open_folder.ensures.disk.same h))
+    c.run_from.ensures.heavy

@@ -1,4 +1,4 @@
-use Rattle.std.proofs.Common.{◌≡◌, ℕ, ◌-◌, List, length, get_or, ◌∙◌, sym, ap, arith}
+use Rattle.std.proofs.Common.{◌-◌, List, length, get_or, ◌∙◌, sym, ap, arith}
 use Rattle.den_model.specs.Entries.{LogEntry}
 use Rattle.den_model.specs.Log.{floor}
 use Rattle.den_store.specs.Held.{log_of}

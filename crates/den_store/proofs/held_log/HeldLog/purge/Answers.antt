@@ -1,4 +1,4 @@
-use Rattle.std.proofs.Common.{◌≡◌, Bool, true, List, drop, ◌∙◌, sym, ap, subst, arith}
+use Rattle.std.proofs.Common.{◌≡◌, true, List, drop, ◌∙◌, sym, ap, subst, arith}
 use Rattle.den_model.specs.Entries.{LogEntry, rise_above}
 use Rattle.den_model.specs.Log.{floor, above}
 use Rattle.den_store.specs.Held.{log_of}

@@ -1,4 +1,4 @@
-use Rattle.std.proofs.Common.{◌≡◌, Bool, true, List, take, ◌∙◌, sym, ap, subst, arith}
+use Rattle.std.proofs.Common.{◌≡◌, true, List, take, ◌∙◌, sym, ap, subst, arith}
 use Rattle.den_model.specs.Entries.{LogEntry, rise_above}
 use Rattle.den_model.specs.Log.{floor, below}
 use Rattle.den_store.specs.Held.{log_of}

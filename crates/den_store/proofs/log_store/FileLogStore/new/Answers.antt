@@ -1,4 +1,4 @@
-use Rattle.std.proofs.Common.{◌≡◌, ℕ, List, IsTrue, ◌<◌, ◌^◌, Ok, Err, ◌∙◌, sym, ap, subst}
+use Rattle.std.proofs.Common.{◌≡◌, ℕ, List, IsTrue, ◌<◌, ◌^◌, Err, ◌∙◌, sym, ap, subst, arith}
 use Rattle.den_disk.specs.declared.place.Family.TheVariants.{Log as log_family}
 use Rattle.den_disk.specs.declared.place.Place.{Place}
 use Rattle.den_disk.specs.Place.{place_number}
@@ -9,6 +9,7 @@ use Rattle.den_disk.specs.Goes.{Rose}
 use Rattle.den_model.specs.Image.{slot_of, log_in}
 use Rattle.den_store.specs.Folding.{end_from, IsUnread}
 use Rattle.den_store.proofs.Opens.{loaded_meaning, loaded_small, unread_weaker, handed_on}
+use Rattle.den_store.proofs.Sizes.{loaded_size, loaded_weight}
 use Rattle.den_store.proofs.log_store.FileLogStore.new.Goals as goal
 
 pub returns-clause-opened : goal.returns-clause-opened
@@ -36,3 +37,12 @@ returns-in_err-held-clause-refused g c =
       loaded_meaning log_family (log_from empty_log) l old new is (c.load.ensures.spares tells) ∙ ap (λ (xs : List (List ℕ)). log_from empty_log (placed 0 xs)) (sym c.as_slice.ensures) ∙ h.1 small,
     ))
     c.in_err-held.ensures.refused)
+
+pub returns-clause-weight : goal.returns-clause-weight
+returns-clause-weight g c = λ tells.
+    loaded_weight log_family c.in_ok-loaded.loaded (g.D.Disk.content c.args.disk.now) (g.D.Disk.content c.load.new.disk) (c.in_ok-loaded.ensures.loaded tells) (c.load.ensures.spares tells)
+
+pub returns-clause-entries : goal.returns-clause-entries
+returns-clause-entries g c = λ tells.
+    let size = loaded_size log_family c.in_ok-loaded.loaded (g.D.Disk.content c.args.disk.now) (g.D.Disk.content c.load.new.disk) (c.in_ok-loaded.ensures.loaded tells) (c.load.ensures.spares tells) in
+    omega (arith, size, c.in_ok-held.ensures.size, ap (end_from 0) c.as_slice.ensures)

@@ -1,15 +1,19 @@
-use Rattle.std.proofs.Common.{◌≡◌, ℕ, ◌+◌, Bool, true, List, length, get_or, Ok, ◌∙◌, sym, ap, subst, arith}
+use Rattle.std.proofs.Common.{◌≡◌, ◌≤◌, ◌+◌, true, List, length, Ok, ◌∙◌, sym, ap, subst, arith}
 use Rattle.den_disk.specs.declared.place.Family.TheVariants.{Log as log_family}
 use Rattle.den_disk.specs.declared.place.Place.{Place}
 use Rattle.den_model.specs.declared.region.LogRegion.TheVariants.{Append}
-use Rattle.den_model.specs.Entries.{LogEntry, rise_above, rise_from}
+use Rattle.den_model.specs.Entries.{LogEntry, rise_above}
 use Rattle.den_model.specs.Log.{Log, floor, replaced, changed}
+use Rattle.den_model.specs.Sizes.{entries_size, store_rise}
 use Rattle.den_gate.specs.Gate.{payloads}
+use Rattle.den_codec.specs.declared.error.Error.{Error}
+use Rattle.den_codec.specs.Full.{IsHeavy}
 use Rattle.den_store.specs.Held.{log_of}
 use Rattle.den_store.specs.FileLog.{log_held, log_rests_hold}
 use Rattle.den_store.proofs.Rising.{rise_from_lower, rise_from_above, rise_from_begins}
 use Rattle.den_store.proofs.HeldLogs.{append_is}
-use Rattle.den_store.proofs.Owned.{unmoved_own, unmoved_others, Appends, log_gives, log_own}
+use Rattle.den_store.proofs.Owned.{unmoved_own, unmoved_others, Adds, log_gives, log_own}
+use Rattle.den_store.proofs.Sizes.{append_size, heavy}
 use Rattle.den_store.proofs.log_store.FileLogStoreLogStore.persist_entries.Goals as goal
 
 pub returns-in_default-clause-own : goal.returns-in_default-clause-own
@@ -45,9 +49,9 @@ returns-in-Ok-clause-own g c = λ tells.
     let l = log_of c.args.self.now.held in
     let es = c.args.entries.now in
     let list = payloads c.args.self.now.gate (g.D.Disk.content c.args.disk.now).reading in
-    let a : Appends l es list c.as_slice.result.now =
+    let a : Adds l (Append es) list c.as_slice.result.now =
     (r.gives, c.as_slice.ensures.value ∙ c.in_ok-prepared.ensures.word, rise_from_begins (floor l + 1) es c.requires.rise, c.in_ok-prepared.ensures.fits) in
-    log_own c.args.self.now.gate.slot list c.as_slice.result.now _ _ _ l es r.family a (c.append.ensures.family tells r.current)
+    log_own c.args.self.now.gate.slot list c.as_slice.result.now _ _ _ l (Append es) r.family a (c.append.ensures.family tells r.current)
 
 pub returns-in-Err-clause-own : goal.returns-in-Err-clause-own
 returns-in-Err-clause-own g c = λ tells.
@@ -55,9 +59,9 @@ returns-in-Err-clause-own g c = λ tells.
     let l = log_of c.args.self.now.held in
     let es = c.args.entries.now in
     let list = payloads c.args.self.now.gate (g.D.Disk.content c.args.disk.now).reading in
-    let a : Appends l es list c.as_slice.result.now =
+    let a : Adds l (Append es) list c.as_slice.result.now =
     (r.gives, c.as_slice.ensures.value ∙ c.in_ok-prepared.ensures.word, rise_from_begins (floor l + 1) es c.requires.rise, c.in_ok-prepared.ensures.fits) in
-    log_own c.args.self.now.gate.slot list c.as_slice.result.now _ _ _ l es r.family a (c.append.ensures.family tells r.current)
+    log_own c.args.self.now.gate.slot list c.as_slice.result.now _ _ _ l (Append es) r.family a (c.append.ensures.family tells r.current)
 
 pub returns-in-Ok-clause-rests : goal.returns-in-Ok-clause-rests
 returns-in-Ok-clause-rests g c = λ tells.
@@ -65,7 +69,7 @@ returns-in-Ok-clause-rests g c = λ tells.
     let l = log_of c.args.self.now.held in
     let es = c.args.entries.now in
     let list = payloads c.args.self.now.gate (g.D.Disk.content c.args.disk.now).reading in
-    let a : Appends l es list c.as_slice.result.now =
+    let a : Adds l (Append es) list c.as_slice.result.now =
     (r.gives, c.as_slice.ensures.value ∙ c.in_ok-prepared.ensures.word, rise_from_begins (floor l + 1) es c.requires.rise, c.in_ok-prepared.ensures.fits) in
     let from = c.index-from.result in
     let same : log_of c.replace.new.self ≡ changed l (Append es) =
@@ -76,5 +80,18 @@ returns-in-Ok-clause-rests g c = λ tells.
       family = ap (λ (p : Place). p.family) c.append.ensures.slot ∙ r.family;
       at_rest = c.in-Ok.ensures.at_rest tells;
       current = c.append.ensures.current tells r.current;
-      gives = log_gives l es list (payloads c.append.new.self (g.D.Disk.content c.append.new.disk).reading) c.as_slice.result.now a (c.in-Ok.ensures.appended tells) ∙ ap (λ (m : Log). Ok m) (sym same);
+      gives = log_gives l (Append es) list (payloads c.append.new.self (g.D.Disk.content c.append.new.disk).reading) c.as_slice.result.now a (c.in-Ok.ensures.appended tells) ∙ ap (λ (m : Log). Ok m) (sym same);
     }
+
+pub returns-in-Ok-clause-weight : goal.returns-in-Ok-clause-weight
+returns-in-Ok-clause-weight g c =
+    omega (arith, c.in-Ok.ensures.end, ap length (c.as_slice.ensures.value ∙ c.in_ok-prepared.ensures.word), append_size c.args.entries.now)
+
+pub returns-in-Err-clause-heavy : goal.returns-in-Err-clause-heavy
+returns-in-Err-clause-heavy g c =
+    let most = (g.D.Disk.kind c.args.disk.now).limit in
+    let end = c.args.self.now.gate.end in
+    let size = entries_size c.args.entries.now in
+    let within : end + length c.as_slice.result.now ≤ end + store_rise size = omega (arith, ap length (c.as_slice.ensures.value ∙ c.in_ok-prepared.ensures.word), append_size c.args.entries.now) in
+    subst (λ (e : Error). IsHeavy most (end + store_rise size) e) (sym c.refusal.ensures)
+    (heavy _ _ _ _ log_family end (length c.as_slice.result.now) most (end + store_rise size) c.in-Err.error within (λ needed limit h. (h.0, h.1, h.2, h.3)) c.in-Err.ensures.refused)

@@ -1,4 +1,4 @@
-use Rattle.std.proofs.Common.{◌≡◌, ℕ, List, IsTrue, ◌<◌, ◌^◌, None, Ok, Err, ◌∙◌, sym, ap, subst}
+use Rattle.std.proofs.Common.{◌≡◌, ℕ, List, IsTrue, ◌<◌, ◌^◌, None, Err, ◌∙◌, sym, ap, subst}
 use Rattle.den_disk.specs.declared.place.Family.TheVariants.{Meta as meta_family}
 use Rattle.den_disk.specs.declared.place.Place.{Place}
 use Rattle.den_disk.specs.Place.{place_number}
@@ -8,6 +8,7 @@ use Rattle.den_disk.specs.Goes.{Rose}
 use Rattle.den_model.specs.Image.{slot_of, hard_state_from, hard_state_held}
 use Rattle.den_store.specs.Folding.{end_from, IsUnread}
 use Rattle.den_store.proofs.Opens.{loaded_meaning, loaded_small, unread_weaker, handed_on}
+use Rattle.den_store.proofs.Sizes.{loaded_weight}
 use Rattle.den_store.proofs.meta_store.FileMetaStore.new.Goals as goal
 
 pub returns-clause-opened : goal.returns-clause-opened
@@ -35,3 +36,7 @@ returns-in_err-last-clause-refused g c =
       loaded_meaning meta_family (hard_state_from None) l old new is (c.load.ensures.spares tells) ∙ ap (λ (xs : List (List ℕ)). hard_state_from None (placed 0 xs)) (sym c.as_slice.ensures) ∙ h.1 small,
     ))
     c.in_err-last.ensures.refused)
+
+pub returns-clause-weight : goal.returns-clause-weight
+returns-clause-weight g c = λ tells.
+    loaded_weight meta_family c.in_ok-loaded.loaded (g.D.Disk.content c.args.disk.now) (g.D.Disk.content c.load.new.disk) (c.in_ok-loaded.ensures.loaded tells) (c.load.ensures.spares tells)

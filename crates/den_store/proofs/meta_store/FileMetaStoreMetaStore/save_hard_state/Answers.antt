@@ -1,9 +1,7 @@
-use Rattle.std.proofs.Common.{◌≡◌, ℕ, List, ◌++◌, None, ◌∙◌, sym, ap, subst}
+use Rattle.std.proofs.Common.{◌≡◌, ℕ, List, ◌++◌, ◌∙◌, ap}
 use Rattle.den_disk.specs.declared.place.Family.TheVariants.{Meta as meta_family}
 use Rattle.den_disk.specs.declared.place.Place.{Place}
 use Rattle.den_model.specs.Spelling.{hard_state_word}
-use Rattle.den_model.specs.Regions.{placed}
-use Rattle.den_model.specs.Image.{hard_state_from}
 use Rattle.den_gate.specs.Gate.{payloads}
 use Rattle.den_store.specs.FileMeta.{state_held, meta_rests_hold}
 use Rattle.den_store.proofs.Owned.{unmoved_own, unmoved_others, meta_own, meta_gives}

@@ -1,0 +1,36 @@
+use Rattle.std.proofs.Common.{◌≡◌, ◌+◌, ◌-◌, ℕ, Bool, IsTrue, None, sym, subst, ◌∙◌}
+use Rattle.den_disk.specs.Goes.{Rose}
+use Rattle.den_server.specs.Opening.{refusal_in}
+use Rattle.den_program.specs.Serving.{IsRefusedStatus, IsLine, IsLineFront}
+use Rattle.den_program.specs.Status.{status_of_error}
+use Rattle.den_program.proofs.Statuses.{two_at_none, turned_away_status, line_is, front_is}
+use Rattle.den_program.proofs.serving.serve_main.Goals as goal
+
+pub returns-clause-turned_away : goal.returns-clause-turned_away
+returns-clause-turned_away g c = λ e told is some.
+    let answer = c.serve_words-answer.result in
+    let there : answer ≡ None → ⊥ = λ none. some (c.status_of.ensures ∙ two_at_none answer none) in
+    let away = c.serve_words-answer.ensures.turned_away e told is there in
+    (subst (IsRefusedStatus (status_of_error e)) (sym c.status_of.ensures) (turned_away_status e answer there away.0), away.1, away.2, away.3)
+
+pub returns-clause-line : goal.returns-clause-line
+returns-clause-line g c = λ told quiet.
+    let D = g.D.Disk in
+    let L = g.L.Link in
+    let E = g.E.Sink in
+    let disk = c.args.disk.now in
+    let refusal = refusal_in (D.content disk).reading in
+    subst (λ (n : ℕ). IsLine (IsTrue (D.kind disk).tells) refusal n (E.written c.args.errs.now) (E.written c.tell.new.errs)) (sym c.status_of.ensures)
+    (line_is (Rose (D.faults disk) (D.faults c.serve_words-answer.new.disk)) (Rose (L.faults c.args.link.now) (L.faults c.serve_words-answer.new.link)) (IsTrue (D.kind disk).tells)
+    (D.kind disk).limit 0 refusal c.serve_words-answer.result _ _ c.serve_words-answer.ensures.refused (c.tell.ensures.line told quiet))
+
+pub returns-clause-line_front : goal.returns-clause-line_front
+returns-clause-line_front g c = λ told.
+    let D = g.D.Disk in
+    let L = g.L.Link in
+    let E = g.E.Sink in
+    let disk = c.args.disk.now in
+    let refusal = refusal_in (D.content disk).reading in
+    subst (λ (n : ℕ). IsLineFront (IsTrue (D.kind disk).tells) refusal n (E.written c.args.errs.now) (E.written c.tell.new.errs)) (sym c.status_of.ensures)
+    (front_is (Rose (D.faults disk) (D.faults c.serve_words-answer.new.disk)) (Rose (L.faults c.args.link.now) (L.faults c.serve_words-answer.new.link)) (IsTrue (D.kind disk).tells)
+    (D.kind disk).limit 0 refusal c.serve_words-answer.result _ _ c.serve_words-answer.ensures.refused (c.tell.ensures.front told))

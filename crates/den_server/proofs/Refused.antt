@@ -1,0 +1,207 @@
+-- What a folder's files are refused for, by what was read of them.
+use Rattle.std.proofs.Common.{cond, nat_lt, List, [], ◌∷◌, length, ◌≡◌, ◌⊎◌, inl, inr, ⊎_elim, ◌<◌, ◌≤◌, ◌+◌, ◌*◌, ◌||◌, IsTrue, IsSome, ℕ, Bool, true, false, Option, Some, None, Result, Ok, Err, OnOk, IfOk, IfErr, IsOk, if◌then◌else◌, refl, sym, ◌∙◌, ap, subst, arith}
+use Rattle.den_disk.specs.declared.place.Family.TheVariants as family
+use Rattle.den_disk.specs.Place.{place_number}
+use Rattle.den_disk.specs.Files.{Files}
+use Rattle.den_codec.specs.declared.error.Error.{Error}
+use Rattle.den_codec.specs.declared.error.Error.TheVariants as error
+use Rattle.den_codec.specs.Full.{IsHeavy}
+use Rattle.den_model.specs.declared.log_id.HardState.{HardState}
+use Rattle.den_model.specs.Entries.{LogEntry}
+use Rattle.den_model.specs.Sizes.{entries_size}
+use Rattle.den_model.specs.Spelling.{entry_word}
+use Rattle.den_model.specs.Kv.{Durable}
+use Rattle.den_model.specs.Log.{Log, above}
+use Rattle.den_model.specs.MapState.{MapState}
+use Rattle.den_model.specs.Image.{Corruption, recovered, of_family, or_corrupt, ◌>>=◌, slot_of, log_in, hard_state_held, map_in, durable, durable_in, joined, ok}
+use Rattle.den_state.specs.Chunk.{asks_lease, has_expiry}
+use Rattle.den_state.specs.Machine.{IsOpeningRefusal as IsStateRefusal}
+use Rattle.den_store.specs.Causes.{IsRefusal}
+use Rattle.den_store.specs.Engine.{IsFirstCorrupt}
+use Rattle.den_store.specs.Folding.{IsUnread}
+use Rattle.den_core.specs.Opening.{refusal_for, opening_refusal, is_exhausted, IsOpeningFailure}
+use Rattle.den_server.specs.Causes.{IsUnreadFolder, IsOpeningRefusal}
+use Rattle.den_server.specs.Opening.{lease_asked, refusal_of, refusal_in, IsRead}
+
+-- ---- the definition, by what each family gives
+
+abbrev joint : Files → Result Log ℕ → Result (Option HardState) ℕ → Result MapState ℕ → Result Durable Corruption
+joint files a b c = do
+  l ← of_family family.Log files a
+  h ← of_family family.Meta files b
+  s ← of_family family.State files c
+  or_corrupt (record { place = place_number (slot_of family.Log files); offset = 0 }) (durable l h s)
+
+recovered_is : (files : Files) → recovered files ≡ joint files (log_in files) (hard_state_held files) (map_in files)
+unfolding recovered
+recovered_is files = refl
+
+abbrev by_parts : Files → Result Log ℕ → Result (Option HardState) ℕ → Result MapState ℕ → Option Error
+by_parts files a b c = refusal_of (lease_asked a c) (joint files a b c)
+
+refusal_is : (files : Files) → refusal_in files ≡ by_parts files (log_in files) (hard_state_held files) (map_in files)
+refusal_is files = ap (refusal_of (lease_asked (log_in files) (map_in files))) (recovered_is files)
+
+log_unread : (files : Files) (place offset : ℕ) → place ≡ place_number (slot_of family.Log files) → log_in files ≡ Err offset → refusal_in files ≡ Some (error.DataCorruption place offset)
+log_unread files place offset at bad = refusal_is files ∙ (λ i. by_parts files (bad i) (hard_state_held files) (map_in files)) ∙ ap (λ p. Some (error.DataCorruption p offset)) (sym at)
+
+meta_unread : (files : Files) (l : Log) (place offset : ℕ) → log_in files ≡ Ok l → place ≡ place_number (slot_of family.Meta files) → hard_state_held files ≡ Err offset
+    → refusal_in files ≡ Some (error.DataCorruption place offset)
+meta_unread files l place offset log at bad = refusal_is files ∙ (λ i. by_parts files (log i) (bad i) (map_in files)) ∙ ap (λ p. Some (error.DataCorruption p offset)) (sym at)
+
+some_log : (r : Result Log ℕ) → IsOk r → (l : Log) × (r ≡ Ok l)
+some_log (Ok l) is = (l, refl)
+some_log (Err offset) is = absurd (cc is)
+
+pub storage_unread : (files : Files) (place offset : ℕ) → IsFirstCorrupt files place offset → refusal_in files ≡ Some (error.DataCorruption place offset)
+storage_unread files place offset h = ⊎_elim
+    (λ log. log_unread files place offset log.0 log.1)
+    (λ meta. let some = some_log (log_in files) meta.0 in meta_unread files some.0 place offset some.1 meta.1 meta.2)
+    h
+
+pub state_unread : (files : Files) (l : Log) (h : Option HardState) (place offset : ℕ) → log_in files ≡ Ok l → hard_state_held files ≡ Ok h
+    → place ≡ place_number (slot_of family.State files) → map_in files ≡ Err offset → refusal_in files ≡ Some (error.DataCorruption place offset)
+state_unread files l h place offset log meta at bad = refusal_is files ∙ (λ i. by_parts files (log i) (meta i) (bad i)) ∙ ap (λ p. Some (error.DataCorruption p offset)) (sym at)
+
+join_refusal : (lease : Bool) (place : ℕ) (o : Option Durable) → refusal_of lease (or_corrupt (record { place = place; offset = 0 }) o) ≡ refusal_for place lease o
+join_refusal lease place None = refl
+join_refusal lease place (Some d) = refl
+
+pub read_refusal : (files : Files) (l : Log) (h : Option HardState) (s : MapState) (place : ℕ) → IsRead files l h s → place ≡ place_number (slot_of family.Log files)
+    → refusal_in files ≡ opening_refusal place l h s
+read_refusal files l h s place read at =
+    refusal_is files ∙ (λ i. by_parts files (read.log i) (read.hard_state i) (read.map i))
+    ∙ join_refusal (has_expiry s || asks_lease (above s.mark.index l.entries)) (place_number (slot_of family.Log files)) (durable l h s)
+    ∙ ap (λ p. opening_refusal p l h s) (sym at)
+
+pub read_durable : (files : Files) (l : Log) (h : Option HardState) (s : MapState) → IsRead files l h s → durable_in files ≡ durable l h s
+read_durable files l h s read = λ i. joined (ok (read.log i)) (ok (read.hard_state i)) (ok (read.map i))
+
+-- ---- the answers
+
+pub unread_refused : (rose rose' told : Type 0) (refusal : Option Error) (corrupt : ℕ → ℕ → Type 0) (e : Error) → (rose → rose')
+    → ((place offset : ℕ) → corrupt place offset → told → refusal ≡ Some (error.DataCorruption place offset)) → IsUnread rose corrupt e → IsUnreadFolder rose' told refusal e
+unread_refused rose rose' told refusal corrupt error.OutOfMemory grow sound h = h
+unread_refused rose rose' told refusal corrupt error.StorageIoError grow sound h = grow h
+unread_refused rose rose' told refusal corrupt (error.DataCorruption place offset) grow sound h = sound place offset h
+unread_refused rose rose' told refusal corrupt (error.DiskFull needed limit) grow sound h = absurd h
+unread_refused rose rose' told refusal corrupt error.LinkFault grow sound h = absurd h
+unread_refused rose rose' told refusal corrupt error.FeatureNotEnabled grow sound h = absurd h
+unread_refused rose rose' told refusal corrupt error.ProposeFailed grow sound h = absurd h
+unread_refused rose rose' told refusal corrupt (error.UnorderedChunk index) grow sound h = absurd h
+unread_refused rose rose' told refusal corrupt (error.Config place) grow sound h = absurd h
+unread_refused rose rose' told refusal corrupt error.StateMachineError grow sound h = absurd h
+
+pub state_refused : (rose rose' told : Type 0) (refusal : Option Error) (tells : Bool) (files : Files) (e : Error) → (rose → rose')
+    → ((place offset : ℕ) → (IsTrue tells → (place ≡ place_number (slot_of family.State files)) × (map_in files ≡ Err offset)) → told → refusal ≡ Some (error.DataCorruption place offset))
+    → IsStateRefusal rose tells files e → IsUnreadFolder rose' told refusal e
+state_refused rose rose' told refusal tells files error.OutOfMemory grow sound h = h
+state_refused rose rose' told refusal tells files error.StorageIoError grow sound h = grow h
+state_refused rose rose' told refusal tells files (error.DataCorruption place offset) grow sound h = sound place offset h
+state_refused rose rose' told refusal tells files (error.DiskFull needed limit) grow sound h = absurd h
+state_refused rose rose' told refusal tells files error.LinkFault grow sound h = absurd h
+state_refused rose rose' told refusal tells files error.FeatureNotEnabled grow sound h = absurd h
+state_refused rose rose' told refusal tells files error.ProposeFailed grow sound h = absurd h
+state_refused rose rose' told refusal tells files (error.UnorderedChunk index) grow sound h = absurd h
+state_refused rose rose' told refusal tells files (error.Config place) grow sound h = absurd h
+state_refused rose rose' told refusal tells files error.StateMachineError grow sound h = absurd h
+
+pub folder_refused : (rose told : Type 0) (most : ℕ) (refusal : Option Error) (e : Error) → IsUnreadFolder rose told refusal e → IsOpeningRefusal rose most told refusal e
+folder_refused rose told most refusal error.OutOfMemory h = h
+folder_refused rose told most refusal error.StorageIoError h = h
+folder_refused rose told most refusal (error.DataCorruption place offset) h = h
+folder_refused rose told most refusal (error.DiskFull needed limit) h = absurd h
+folder_refused rose told most refusal error.LinkFault h = absurd h
+folder_refused rose told most refusal error.FeatureNotEnabled h = absurd h
+folder_refused rose told most refusal error.ProposeFailed h = absurd h
+folder_refused rose told most refusal (error.UnorderedChunk index) h = absurd h
+folder_refused rose told most refusal (error.Config place) h = absurd h
+folder_refused rose told most refusal error.StateMachineError h = absurd h
+
+-- reading a folder never finds the disk full
+pub folder_light : (rose told : Type 0) (refusal : Option Error) (most weight : ℕ) (e : Error) → IsUnreadFolder rose told refusal e → IsHeavy most weight e
+folder_light rose told refusal most weight error.OutOfMemory h = record {}
+folder_light rose told refusal most weight error.StorageIoError h = record {}
+folder_light rose told refusal most weight (error.DataCorruption place offset) h = record {}
+folder_light rose told refusal most weight (error.DiskFull needed limit) h = absurd h
+folder_light rose told refusal most weight error.LinkFault h = record {}
+folder_light rose told refusal most weight error.FeatureNotEnabled h = record {}
+folder_light rose told refusal most weight error.ProposeFailed h = record {}
+folder_light rose told refusal most weight (error.UnorderedChunk index) h = record {}
+folder_light rose told refusal most weight (error.Config place) h = record {}
+folder_light rose told refusal most weight error.StateMachineError h = record {}
+
+pub heavier : (most weight more : ℕ) (e : Error) → weight ≤ more → IsHeavy most weight e → IsHeavy most more e
+heavier most weight more (error.DiskFull needed limit) le h = omega (arith, h)
+heavier most weight more error.OutOfMemory le h = h
+heavier most weight more error.StorageIoError le h = h
+heavier most weight more (error.DataCorruption place offset) le h = h
+heavier most weight more error.LinkFault le h = h
+heavier most weight more error.FeatureNotEnabled le h = h
+heavier most weight more error.ProposeFailed le h = h
+heavier most weight more (error.UnorderedChunk index) le h = h
+heavier most weight more (error.Config place) le h = h
+heavier most weight more error.StateMachineError le h = h
+
+disk_refused : (rose rose' told : Type 0) (most : ℕ) (refusal : Option Error) (e : Error) → (rose → rose') → (told → refusal ≡ None) → IsRefusal rose most e → IsOpeningRefusal rose' most told refusal e
+disk_refused rose rose' told most refusal error.OutOfMemory grow none h = h
+disk_refused rose rose' told most refusal error.StorageIoError grow none h = grow h
+disk_refused rose rose' told most refusal (error.DiskFull needed limit) grow none h = (h.0, h.1, none)
+disk_refused rose rose' told most refusal (error.DataCorruption place offset) grow none h = absurd h
+disk_refused rose rose' told most refusal error.LinkFault grow none h = absurd h
+disk_refused rose rose' told most refusal error.FeatureNotEnabled grow none h = absurd h
+disk_refused rose rose' told most refusal error.ProposeFailed grow none h = absurd h
+disk_refused rose rose' told most refusal (error.UnorderedChunk index) grow none h = absurd h
+disk_refused rose rose' told most refusal (error.Config place) grow none h = absurd h
+disk_refused rose rose' told most refusal error.StateMachineError grow none h = absurd h
+
+some_is : (e d : Error) → Some d ≡ Some e → d ≡ e
+some_is e d p = cc p
+
+-- a refusal is one of three
+refusal_kind : (P : Error → Type 0) (place : ℕ) (lease : Bool) (d : Option Durable) (e : Error) → P (error.DataCorruption place 0) → P error.FeatureNotEnabled → P error.ProposeFailed
+    → refusal_for place lease d ≡ Some e → P e
+refusal_kind P place lease None e corrupt feature propose p = subst P (some_is e (error.DataCorruption place 0) p) corrupt
+refusal_kind P place true (Some d) e corrupt feature propose p = subst P (some_is e error.FeatureNotEnabled p) feature
+refusal_kind P place false (Some d) e corrupt feature propose p = exhausted (is_exhausted d) p where
+  exhausted : (b : Bool) → (if b then Some error.ProposeFailed else None) ≡ Some e → P e
+  exhausted true q = subst P (some_is e error.ProposeFailed q) propose
+  exhausted false q = absurd (cc q)
+
+pub failure_refused : (rose rose' told : Type 0) (most place : ℕ) (refusal : Option Error) (l : Log) (h : Option HardState) (s : MapState) (e : Error) → (rose → rose')
+    → (told → refusal ≡ opening_refusal place l h s) → IsOpeningFailure rose most (opening_refusal place l h s) e → IsOpeningRefusal rose' most told refusal e
+failure_refused rose rose' told most place refusal l h s e grow same failure = ⊎_elim
+    (λ is. refusal_kind (λ f. (told → refusal ≡ Some f) → IsOpeningRefusal rose' most told refusal f) place _ (durable l h s) e (λ r. r) (λ r. r) (λ r. r) is (λ t. same t ∙ is))
+    (λ other. ⊎_elim (λ memory. subst (IsOpeningRefusal rose' most told refusal) (sym memory) (record {}))
+    (λ disk. disk_refused rose rose' told most refusal e grow (λ t. same t ∙ disk.0) disk.1) other)
+    failure
+
+-- an error that refuses is some
+pub some_refused : (refusal other : Option Error) (e : Error) → refusal ≡ other → refusal ≡ Some e → IsSome other
+some_refused refusal other e same is = subst IsSome (sym is ∙ same) refl
+
+-- ---- results
+
+pub if_err_weaker : {T E : Type 0} (r : Result T E) (P Q : E → Type 0) → ((e : E) → P e → Q e) → IfErr r P → IfErr r Q
+if_err_weaker (Ok x) P Q f p = record {}
+if_err_weaker (Err e) P Q f p = f e p
+
+pub if_ok_weaker : {T E : Type 0} (r : Result T E) (P Q : T → Type 0) → ((x : T) → P x → Q x) → IfOk r P → IfOk r Q
+if_ok_weaker (Ok x) P Q f p = f x p
+if_ok_weaker (Err e) P Q f p = record {}
+
+pub if_ok_two : {T E : Type 0} (r : Result T E) (P Q R : T → Type 0) → ((x : T) → P x → Q x → R x) → IfOk r P → IfOk r Q → IfOk r R
+if_ok_two (Ok x) P Q R f p q = f x p q
+if_ok_two (Err e) P Q R f p q = record {}
+
+pub if_ok_on : {T E : Type 0} (r : Result T E) (P : Type 0) (Q : T → Type 0) → ((x : T) → P → Q x) → OnOk r P → IfOk r Q
+if_ok_on (Ok x) P Q f p = f x p
+if_ok_on (Err e) P Q f p = record {}
+
+-- the entries above an index are no more than all
+pub above_size : (index : ℕ) (entries : List LogEntry) → entries_size (above index entries) ≤ entries_size entries
+above_size index [] = omega arith
+above_size index (e ∷ es) = kept (nat_lt index e.index) (above_size index es) where
+  kept : (b : Bool) → entries_size (above index es) ≤ entries_size es → entries_size (cond b (e ∷ above index es) (above index es)) ≤ length (entry_word e) + entries_size es
+  kept true le = omega (arith, le)
+  kept false le = omega (arith, le)
