@@ -1,28 +1,12 @@
 //! A lease in memory.
 ghost use Rattle.std.specs.Prelude.{◌≡◌, ◌||◌, ℕ, List, [], true, false, length, nat_lt, Option, Some, None, unwrap_or, OnOk, IfOk, IfErr};
-ghost use Rattle.den_codec.specs.declared.error.Error.TheVariants.{OutOfMemory as out_of_memory};
-ghost use Rattle.den_lease.specs.declared.default_lease.ReloadError.TheVariants.{OutOfMemory};
+ghost use Rattle.den_codec.specs.declared.error.Error.TheVariants.{OutOfMemory};
 ghost use Rattle.den_model.specs.Table.{at};
 ghost use Rattle.den_lease.specs.Words.{snapshot_in};
 
 use crate::{ByteMap, Lease, LeaseSnapshot};
 use den_codec::{Blob, Error, LeaseConfig, Positive, Rows, Word};
-use std::alloc::{AllocError, Global};
-
-/// Why a lease is not reloaded: want of memory, or bytes that are no word.
-#[derive(Clone, Copy, Debug, PartialEq, Eq)]
-pub enum ReloadError {
-    OutOfMemory,
-    StateMachineError,
-}
-
-impl From<AllocError> for ReloadError {
-    ghost from_gives = { λ _ e. e ≡ OutOfMemory };
-
-    fn from(_: AllocError) -> Self {
-        ReloadError::OutOfMemory
-    }
-}
+use std::alloc::Global;
 
 /// Keys and their expiries in memory, with the configuration of leases.
 #[derive(Drop)]
@@ -57,7 +41,7 @@ impl DefaultLease {
         ensures table { IfOk result (λ lease. lease.map ≡ unwrap_or (snapshot_in bytes.now) []) }
         ensures used { IfOk result (λ lease. lease.used ≡ nat_lt 0 (length lease.map)) }
         ensures config { IfOk result (λ lease. lease.config ≡ config) }
-        ensures refused { IfErr result (λ e. e ≡ out_of_memory) }
+        ensures refused { IfErr result (λ e. e ≡ OutOfMemory) }
     {
         let map = match LeaseSnapshot::read(alloc, bytes)? {
             None => ByteMap::new(alloc),
@@ -148,9 +132,9 @@ impl Lease for DefaultLease {
     }
 
     #[tactic(auto, unfolding(crate::specs::Words::snapshot_in))]
-    fn reload(&mut self, bytes: &[u8]) -> Result<(), ReloadError> {
+    fn reload(&mut self, bytes: &[u8]) -> Result<(), Error> {
         let Some(snapshot) = LeaseSnapshot::read(self.alloc, bytes)? else {
-            return Err(ReloadError::StateMachineError);
+            return Err(Error::StateMachineError);
         };
         self.map = ByteMap::load(self.alloc, &snapshot)?;
         self.used = self.used || 0 < self.map.len();

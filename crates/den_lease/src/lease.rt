@@ -9,7 +9,6 @@ ghost use Rattle.std.specs.List.Sorted.{IsStrictlySortedBy};
 ghost use Rattle.den_lease.specs.Words.{snapshot_word, snapshot_in, FitsSnapshot};
 ghost use Rattle.den_lease.specs.Refusals.{IsReloadRefusal};
 
-use crate::ReloadError;
 use den_codec::{Blob, Error, Rows};
 
 /// Keys, and the moment in milliseconds at which each expires.
@@ -78,7 +77,7 @@ pub trait Lease: Drop {
         ensures refused { IfErr result (λ e. e ≡ OutOfMemory) };
 
     /// The keys and expiries of a word, in place of those held. On refusal nothing changes.
-    fn reload(&mut self, bytes: &[u8]) -> Result<(), ReloadError>
+    fn reload(&mut self, bytes: &[u8]) -> Result<(), Error>
         ensures table { OnOk result (snapshot_in bytes.now ≡ Some (table self.new)) }
         ensures used { OnOk result (used self.new ≡ (used self.old || nat_lt 0 (length (table self.new)))) }
         ensures refused { IfErr result (λ e. IsReloadRefusal (snapshot_in bytes.now) e × (table self.new ≡ table self.old) × (used self.new ≡ used self.old)) };
