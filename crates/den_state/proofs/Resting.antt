@@ -66,16 +66,6 @@ lies_appended gate new m next old_content new_content payload l after slot rest 
   means = ap (λ list. map_from empty_map (placed 0 list)) appended ∙ list_push empty_map m next 0 (payloads gate old_content.reading) payload l.means after;
 }
 
--- where the stored mark is the applied one, the stored map is the map
-pub stored_is : (s : FileStateMachine) (c : Content) → Rests s c → s.map ≡ stored_map s
-stored_is s c r = λ i. record s.map { mark = sym r.stored i }
-
-pub keeps_rested : (s : FileStateMachine) (c : Content) → Rests s c → Keeps s c
-keeps_rested s c r = record {
-  files = subst (λ m. Lies s.gate m c) (stored_is s c r) r.files;
-  below = let e = ap (λ (p : LogId). p.index) r.stored in omega (arith, e);
-}
-
 -- what two facts of a success give
 pub both_ok : {A B P Q R : Type 0} (r : Result A B) → (P → Q → R) → OnOk r P → OnOk r Q → OnOk r R
 both_ok (Ok x) gives p q = gives p q

@@ -1,10 +1,12 @@
 -- The laws of a state machine in files.
 use Rattle.std.specs.Prelude.{◌≡◌, ℕ, List, Some, Result, Ok, refl}
-use Rattle.std.proofs.Common.{sym, ap, subst, ◌∙◌}
+use Rattle.std.proofs.Common.{sym, ap, subst, ◌∙◌, ◌≤◌}
+use Rattle.std.proofs.Math.Nat.{le_refl}
 use Rattle.den_disk.specs.declared.place.Family.{Family}
 use Rattle.den_disk.specs.declared.place.Family.TheVariants as family
 use Rattle.den_disk.specs.Files.{Files, Content, IsImage}
 use Rattle.den_disk.specs.Families.{SameOf, SparesOwn}
+use Rattle.den_model.specs.declared.log_id.LogId.{LogId}
 use Rattle.den_model.specs.Regions.{regions, placed}
 use Rattle.den_model.specs.Image.{named, head_of, slot_of, meaning_of, map_in, ok}
 use Rattle.den_model.specs.MapState.{MapState, empty_map, map_from}
@@ -56,3 +58,16 @@ lies_image gate m c files l image = list_means gate (payloads gate c.reading) m 
 
 pub rests_image : (s : FileStateMachine) (c : Content) (files : Files) → Rests s c → IsImage c files → map_held files ≡ Some s.map
 rests_image s c files r image = lies_image s.gate s.map c files r.files image
+
+-- where the stored mark is the applied one, the stored map is the map
+pub stored_is : (s : FileStateMachine) → s.stored ≡ s.map.mark → s.map ≡ stored_map s
+stored_is s stored = λ i. record s.map { mark = sym stored i }
+
+pub keeps_rested : (s : FileStateMachine) (c : Content) → Rests s c → Keeps s c
+keeps_rested s c r = record {
+  files = subst (λ m. Lies s.gate m c) (stored_is s r.stored) r.files;
+  below = subst (λ (p : LogId). s.stored.index ≤ p.index) r.stored (le_refl s.stored.index);
+}
+
+pub keeps_settled : (s : FileStateMachine) (c : Content) → Keeps s c → s.stored ≡ s.map.mark → Rests s c
+keeps_settled s c k stored = record { files = subst (λ m. Lies s.gate m c) (sym (stored_is s stored)) k.files; stored = stored }

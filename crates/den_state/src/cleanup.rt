@@ -56,9 +56,9 @@ impl FileStateMachine {
         self.leased && self.map.has_due(moment)
     }
 
-    /// Removes each key whose expiry is at most the moment, which counts as 1 where it is 0, with its expiry. Answers
-    /// the removed keys, sorted. Without a lease, or where none has expired, it writes nothing.
-    pub fn lease_background_cleanup<D: Disk>(
+    // Removes each key whose expiry is at most the moment, which counts as 1 where it is 0, with its expiry. Answers
+    // the removed keys, sorted. Without a lease, or where none has expired, it writes nothing.
+    pub(crate) fn clean_up<D: Disk>(
         &mut self,
         disk: &mut D,
         now: u64,

@@ -13,13 +13,13 @@ ghost use Rattle.den_gate.specs.Gate.{payloads, IsAtRest, IsCurrent};
 ghost use Rattle.den_state.specs.Chunk.{out_of_order, lacks_lease, IsChunkRefusal, LeavesOrEnds};
 ghost use Rattle.den_state.specs.Journal.{all_recorded};
 ghost use Rattle.den_state.specs.Machine.{IsReady, Lies, Keeps, Rests, IsConfiguredAs, IsDurable, IsOpeningRefusal, IsWriteRefusal, OnUntouched, journaled, map_held, stored_map, state_error};
-ghost use Rattle.den_state.specs.Laws.{rests_spared, held_own, rests_image};
+ghost use Rattle.den_state.specs.Laws.{rests_spared, keeps_spared, keeps_rested, keeps_settled, held_own, lies_image, rests_image};
 
 use crate::StateMachine;
 use crate::chunk::{asks_lease, out_of_order};
 use crate::fold::ListError;
 use crate::map::Map;
-use den_codec::{ApplyResult, Blob, Entry, Error, LogId, Rows};
+use den_codec::{ApplyResult, Blob, Entry, Error, LogId, Rows, ScanResult};
 use den_disk::{Disk, Family, Place};
 use den_gate::{GateError, GateFile};
 use std::alloc::Global;
@@ -230,14 +230,26 @@ impl<D: Disk> StateMachine<D> for FileStateMachine {
 
     ghost leased = { λ s. s.leased };
 
+    ghost stored = { λ s. s.stored };
+
+    ghost keeps = { Keeps };
+
     /// The regions of its journal.
     ghost weight = { λ s. s.gate.end };
 
     ghost rests_own = { rests_spared };
 
+    ghost keeps_own = { keeps_spared };
+
     ghost holds_own = { held_own };
 
     ghost rests_hold = { λ s c files ready rests image. rests_image s c files rests image };
+
+    ghost keeps_hold = { λ s c files ready keeps image. lies_image s.gate (stored_map s) c files keeps.files image };
+
+    ghost rests_keep = { λ s c rests. (keeps_rested s c rests, rests.stored) };
+
+    ghost keeps_rest = { keeps_settled };
 
     /// A chunk that is refused for its order or for want of a lease leaves all as it was, as does one without entries.
     /// Any other adds one region to the journal.
@@ -266,6 +278,26 @@ impl<D: Disk> StateMachine<D> for FileStateMachine {
         self.apply(disk, chunk)
     }
 
+    fn update_last_applied(&mut self, last_applied: LogId) {
+        self.move_mark(last_applied);
+    }
+
+    fn persist_last_applied(&mut self, disk: &mut D, last_applied: LogId) -> Result<(), Error> {
+        self.store_mark(disk, last_applied)
+    }
+
+    fn save_hard_state(&mut self, disk: &mut D) -> Result<(), Error> {
+        self.store_applied(disk)
+    }
+
+    fn close(self, disk: &mut D) -> Result<(), Error> {
+        self.end(disk)
+    }
+
+    fn lease_background_cleanup(&mut self, disk: &mut D, now: u64) -> Result<Rows<Blob>, Error> {
+        self.clean_up(disk, now)
+    }
+
     /// Whether a call failed after it had begun to change the map. It is opened anew then.
     fn is_failed(&self) -> bool {
         self.failed || self.gate.is_failed()
@@ -281,6 +313,25 @@ impl<D: Disk> StateMachine<D> for FileStateMachine {
 
     fn get(&self, key: &[u8]) -> Option<&Blob> {
         self.map.get(key)
+    }
+
+    fn len(&self) -> usize {
+        self.map.len()
+    }
+
+    fn is_empty(&self) -> bool {
+        self.map.len() == 0
+    }
+
+    fn scan_prefix(&self, prefix: &[u8]) -> Result<ScanResult, Error> {
+        Ok(ScanResult {
+            entries: self.map.pairs_under(self.alloc, prefix)?,
+            revision: self.map.mark().index,
+        })
+    }
+
+    fn entry_term(&self, _entry_id: u64) -> Option<u64> {
+        None
     }
 
     fn last_applied(&self) -> LogId {

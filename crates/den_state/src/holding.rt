@@ -1,4 +1,4 @@
-//! What a state machine holds, and how it is set.
+//! How a state machine is set.
 ghost use Rattle.std.specs.Prelude.{◌≡◌, ◌==◌, [], true, false, None, Some, IfOk, IfErr, length};
 ghost use Rattle.std.specs.List.Sorted.{IsStrictlySortedBy};
 ghost use Rattle.den_codec.specs.declared.error.Error.TheVariants.{OutOfMemory};
@@ -11,39 +11,6 @@ use den_codec::{Error, ScanResult};
 use den_lease::DefaultLease;
 
 impl FileStateMachine {
-    /// How many pairs the map has.
-    pub fn len(&self) -> usize
-        ensures { result ≡ length self.now.map.pairs }
-    {
-        self.map.len()
-    }
-
-    /// Whether it has none.
-    pub fn is_empty(&self) -> bool
-        ensures { result ≡ (length self.now.map.pairs == 0) }
-    {
-        self.map.len() == 0
-    }
-
-    /// The pairs whose keys begin with the prefix, sorted, and the applied index of the same map.
-    pub fn scan_prefix(&self, prefix: &[u8]) -> Result<ScanResult, Error>
-        ensures pairs { IfOk result (λ scan. scan ≡ record { entries = pairs_under self.now.map.pairs prefix.now; revision = self.now.map.mark.index }) }
-        ensures sorted { IfOk result (λ scan. IsStrictlySortedBy by_bytes (keys_in scan.entries)) }
-        ensures refused { IfErr result (λ e. e ≡ OutOfMemory) }
-    {
-        Ok(ScanResult {
-            entries: self.map.pairs_under(self.alloc, prefix)?,
-            revision: self.map.mark().index,
-        })
-    }
-
-    /// The term of an entry: the map keeps none.
-    pub fn entry_term(&self, _entry_id: u64) -> Option<u64>
-        ensures { result ≡ None }
-    {
-        None
-    }
-
     /// Configures a lease.
     pub fn set_lease(&mut self, _lease: DefaultLease)
         requires { _lease.map ≡ [] }

@@ -31,17 +31,17 @@ fn mark_payload(alloc: Global, mark: LogId) -> Result<Vec<u8>, AllocError>
 }
 
 impl FileStateMachine {
-    /// Moves the applied mark, in memory alone.
-    pub fn update_last_applied(&mut self, last_applied: LogId)
+    // Moves the applied mark, in memory alone.
+    pub(crate) fn move_mark(&mut self, last_applied: LogId)
         requires { (self.old).map.mark.index ≤ last_applied.index }
         ensures { self.new ≡ record self.old { map = record (self.old).map { mark = last_applied } } }
     {
         self.map.set_mark(last_applied);
     }
 
-    /// Moves the applied mark and the stored one. A crash inside leaves the old map with the old stored mark, or the
-    /// map with the new one.
-    pub fn persist_last_applied<D: Disk>(
+    // Moves the applied mark and the stored one. A crash inside leaves the old map with the old stored mark, or the
+    // map with the new one.
+    pub(crate) fn store_mark<D: Disk>(
         &mut self,
         disk: &mut D,
         last_applied: LogId,
@@ -69,8 +69,8 @@ impl FileStateMachine {
         Ok(())
     }
 
-    /// Stores the applied mark.
-    pub fn save_hard_state<D: Disk>(&mut self, disk: &mut D) -> Result<(), Error>
+    // Stores the applied mark.
+    pub(crate) fn store_applied<D: Disk>(&mut self, disk: &mut D) -> Result<(), Error>
         requires ready { IsReady self.old }
         requires keeps { IsTrue (D.kind disk.old).tells → Keeps self.old (D.content disk.old) }
         ensures disk { DiskGoesOn D.kind D.moment D.images D.faults disk.old disk.new }
@@ -90,11 +90,11 @@ impl FileStateMachine {
         if self.stored.index == mark.index && self.stored.term == mark.term {
             return Ok(());
         }
-        self.persist_last_applied(disk, mark)
+        self.store_mark(disk, mark)
     }
 
-    /// Stores the applied mark, and lets the state machine go.
-    pub fn close<D: Disk>(mut self, disk: &mut D) -> Result<(), Error>
+    // Stores the applied mark, and lets the state machine go.
+    pub(crate) fn end<D: Disk>(mut self, disk: &mut D) -> Result<(), Error>
         requires ready { IsReady self }
         requires keeps { IsTrue (D.kind disk.old).tells → Keeps self (D.content disk.old) }
         ensures disk { DiskGoesOn D.kind D.moment D.images D.faults disk.old disk.new }
@@ -105,6 +105,6 @@ impl FileStateMachine {
         ensures refused { IfErr result (IsWriteRefusal (Unit {0}) (Rose (D.faults disk.old) (D.faults disk.new)) (D.kind disk.old).limit) }
         ensures heavy { IfErr result (IsHeavy (D.kind disk.old).limit (self.gate.end + store_rise 0)) }
     {
-        self.save_hard_state(disk)
+        self.store_applied(disk)
     }
 }

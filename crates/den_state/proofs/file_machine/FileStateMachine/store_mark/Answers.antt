@@ -4,7 +4,7 @@ use Rattle.den_model.specs.MapState.{MapState, map_after_payload}
 use Rattle.den_state.specs.declared.file_machine.FileStateMachine.{FileStateMachine}
 use Rattle.den_state.specs.Machine.{Lies, stored_map}
 use Rattle.den_state.proofs.Resting.{held_still, images_still}
-use Rattle.den_state.proofs.file_machine.FileStateMachine.persist_last_applied.Goals as goal
+use Rattle.den_state.proofs.file_machine.FileStateMachine.store_mark.Goals as goal
 
 pub returns-in_err-payload-clause-own : goal.returns-in_err-payload-clause-own
 returns-in_err-payload-clause-own g c = λ tells.

@@ -11,7 +11,7 @@ use Rattle.den_state.specs.Cleanup.{cleaned_map}
 use Rattle.den_state.specs.Machine.{Lies, stored_map}
 use Rattle.den_state.proofs.Cleaning.{nothing_cleaned, nothing_removed}
 use Rattle.den_state.proofs.Resting.{held_still, images_still}
-use Rattle.den_state.proofs.file_machine.FileStateMachine.lease_background_cleanup.Goals as goal
+use Rattle.den_state.proofs.file_machine.FileStateMachine.clean_up.Goals as goal
 
 pub returns-then-not-is_due-clause-own : goal.returns-then-not-is_due-clause-own
 returns-then-not-is_due-clause-own g c = λ tells.
