@@ -72,7 +72,7 @@ fn open_stores<D: Disk>(alloc: Global, disk: &mut D, data_dir: Label) -> Result<
         Ok(storage) => storage,
         Err(error) => return Err(error),
     };
-    match FileStateMachine::new(alloc, disk) {
+    match FileStateMachine::new(alloc, disk, None) {
         Ok(state) => {
             let (log, meta) = StorageEngine::<D>::split(storage);
             Ok(Stores { log, meta, state })

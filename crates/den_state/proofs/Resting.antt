@@ -8,7 +8,6 @@ use Rattle.den_disk.specs.Place.{place_number}
 use Rattle.den_disk.specs.Files.{Files, Kind, Content, IsImage}
 use Rattle.den_disk.specs.Goes.{DiskGoesOn}
 use Rattle.den_disk.specs.Families.{SparesAll, SparesOthers, SparesImages, OldOrNew}
-use Rattle.den_model.specs.declared.log_id.LogId.{LogId}
 use Rattle.den_model.specs.Regions.{open_regions, placed}
 use Rattle.den_codec.specs.declared.error.Error.{Error}
 use Rattle.den_codec.specs.declared.error.Error.TheVariants as error
@@ -17,8 +16,7 @@ use Rattle.den_model.specs.MapState.{MapState, empty_map, map_after_payload, map
 use Rattle.den_gate.specs.declared.gate.GateFile.{GateFile}
 use Rattle.den_gate.specs.Gate.{payloads, IsAtRest, IsCurrent, KeepsOrAddsFamily}
 use Rattle.den_gate.proofs.Families.{rest_list, adds_meaning}
-use Rattle.den_state.specs.declared.file_machine.FileStateMachine.{FileStateMachine}
-use Rattle.den_state.specs.Machine.{Lies, Keeps, Rests, stored_map, map_held, IsOpeningRefusal}
+use Rattle.den_state.specs.Machine.{Lies, map_held, IsOpeningRefusal}
 use Rattle.den_state.specs.Laws.{map_of_list, map_own, list_means, lies_image}
 use Rattle.den_state.proofs.Lists.{list_push}
 

@@ -16,6 +16,8 @@ use Rattle.den_model.specs.Regions.{placed}
 use Rattle.den_model.specs.Image.{slot_of, map_in, ok}
 use Rattle.den_model.specs.MapState.{MapState, empty_map, map_from}
 use Rattle.den_state.specs.declared.file_machine.FileStateMachine.{FileStateMachine}
+use Rattle.den_state.specs.declared.file_machine.SnapshotMetadata.{SnapshotMetadata}
+use Rattle.den_model.specs.declared.log_id.LogId.{LogId}
 use Rattle.den_state.specs.Journal.{all_recorded}
 
 -- what files give of a map
@@ -52,6 +54,20 @@ pub record IsConfiguredAs (old new : FileStateMachine) : Type 0 where
   pub leased : new.leased ≡ old.leased
   pub metadata : new.metadata ≡ old.metadata
   pub running : new.running ≡ old.running
+
+-- running flag and metadata are so
+pub record IsSetAs (running : Bool) (metadata : Option SnapshotMetadata) (new_running : Bool) (new_metadata : Option SnapshotMetadata) : Type 0 where
+  pub runs : new_running ≡ running
+  pub says : new_metadata ≡ metadata
+
+-- map, marks, lease, weight and files are as they were
+pub record StaysAs {S : Type 0} (map : S → MapState) (stored : S → LogId) (leased : S → Bool) (weight : S → ℕ) (ready : S → Type 0) (keeps : S → Content → Type 0) (old new : S) : Type 0 where
+  pub map_same : map new ≡ map old
+  pub stored_same : stored new ≡ stored old
+  pub lease_same : leased new ≡ leased old
+  pub weight_same : weight new ≡ weight old
+  pub stays_ready : ready old → ready new
+  pub stays_kept : (content : Content) → keeps old content → keeps new content
 
 -- one region of records for entries, and none for no entry
 abbrev pub journaled : MapState → List LogEntry → List (List ℕ)

@@ -58,11 +58,7 @@ impl FileStateMachine {
 
     // Removes each key whose expiry is at most the moment, which counts as 1 where it is 0, with its expiry. Answers
     // the removed keys, sorted. Without a lease, or where none has expired, it writes nothing.
-    pub(crate) fn clean_up<D: Disk>(
-        &mut self,
-        disk: &mut D,
-        now: u64,
-    ) -> Result<Rows<Blob>, Error>
+    pub(crate) fn clean_up<D: Disk>(&mut self, disk: &mut D, now: u64) -> Result<Rows<Blob>, Error>
         requires ready { IsReady self.old }
         requires keeps { IsTrue (D.kind disk.old).tells → Keeps self.old (D.content disk.old) }
         ensures disk { DiskGoesOn D.kind D.moment D.images D.faults disk.old disk.new }

@@ -1,5 +1,5 @@
 //! The state machine in files.
-ghost use Rattle.std.specs.Prelude.{◌≡◌, ◌≤◌, ◌<◌, ◌↔◌, ◌+◌, ◌*◌, ◌∷◌, ◌++◌, ℕ, List, [], true, false, None, Some, Ok, Err, IsTrue, IfOk, IfErr, OnOk, OnErr, length};
+ghost use Rattle.std.specs.Prelude.{◌≡◌, ◌≤◌, ◌<◌, ◌↔◌, ◌+◌, ◌*◌, ◌∷◌, ◌++◌, ℕ, List, [], true, false, None, Some, Ok, Err, IsTrue, IfSome, is_some, IfOk, IfErr, OnOk, OnErr, length};
 ghost use Rattle.den_disk.specs.declared.place.Family.TheVariants.{State as state_family};
 ghost use Rattle.den_disk.specs.Goes.{Rose, DiskGoesOn};
 ghost use Rattle.den_disk.specs.Families.{SparesAll, SparesOthers, SparesImages, NoNewImages, OldOrNew};
@@ -12,7 +12,7 @@ ghost use Rattle.den_codec.specs.Full.{IsHeavy};
 ghost use Rattle.den_gate.specs.Gate.{payloads, IsAtRest, IsCurrent};
 ghost use Rattle.den_state.specs.Chunk.{out_of_order, lacks_lease, IsChunkRefusal, LeavesOrEnds};
 ghost use Rattle.den_state.specs.Journal.{all_recorded};
-ghost use Rattle.den_state.specs.Machine.{IsReady, Lies, Keeps, Rests, IsConfiguredAs, IsDurable, IsOpeningRefusal, IsWriteRefusal, OnUntouched, journaled, map_held, stored_map, state_error};
+ghost use Rattle.den_state.specs.Machine.{IsReady, Lies, Keeps, Rests, IsConfiguredAs, IsSetAs, IsDurable, IsOpeningRefusal, IsWriteRefusal, OnUntouched, journaled, map_held, stored_map, state_error};
 ghost use Rattle.den_state.specs.Laws.{rests_spared, keeps_spared, keeps_rested, keeps_settled, held_own, lies_image, rests_image};
 
 use crate::StateMachine;
@@ -22,6 +22,7 @@ use crate::map::Map;
 use den_codec::{ApplyResult, Blob, Entry, Error, LogId, Rows, ScanResult};
 use den_disk::{Disk, Family, Place};
 use den_gate::{GateError, GateFile};
+use den_lease::DefaultLease;
 use std::alloc::Global;
 
 /// A map in memory, whose journal is the gate file of the State family.
@@ -67,15 +68,21 @@ fn state_error(error: GateError) -> Error
 }
 
 impl FileStateMachine {
-    /// The map that the files give. All files are on the disk then.
-    pub fn new<D: Disk>(alloc: Global, disk: &mut D) -> Result<FileStateMachine, Error>
+    /// The map that the files give, with a lease or without one. Expiries in the files are kept also without a lease.
+    /// All files are on the disk then.
+    pub fn new<D: Disk>(
+        alloc: Global,
+        disk: &mut D,
+        lease: Option<DefaultLease>,
+    ) -> Result<FileStateMachine, Error>
+        requires { IfSome lease (λ l. l.map ≡ []) }
         ensures disk { DiskGoesOn D.kind D.moment D.images D.faults disk.old disk.new }
         ensures images { IsTrue (D.kind disk.old).tells → NoNewImages (D.images disk.old) (D.images disk.new) (D.moment disk.old) (D.moment disk.new) }
         ensures spares { IsTrue (D.kind disk.old).tells → SparesAll (D.content disk.old) (D.content disk.new) }
         ensures synced { IsTrue (D.kind disk.old).tells → IsDurable result (D.content disk.new) }
         ensures opened { IsTrue (D.kind disk.old).tells → IfOk result (λ s. map_in (D.content disk.old).reading ≡ Ok s.map) }
         ensures ready { IfOk result IsReady }
-        ensures lease { IfOk result (λ s. s.leased ≡ false) }
+        ensures lease { IfOk result (λ s. s.leased ≡ is_some lease) }
         ensures metadata { IfOk result (λ s. s.metadata ≡ None) }
         ensures running { IfOk result (λ s. s.running ≡ true) }
         ensures weight { IsTrue (D.kind disk.old).tells → IfOk result (λ s. s.gate.end ≡ family_size state_family (D.content disk.old).reading) }
@@ -100,7 +107,7 @@ impl FileStateMachine {
                     map,
                     failed: false,
                     stored,
-                    leased: false,
+                    leased: lease.is_some(),
                     metadata: None,
                     running: true,
                 })
@@ -230,6 +237,10 @@ impl<D: Disk> StateMachine<D> for FileStateMachine {
 
     ghost leased = { λ s. s.leased };
 
+    ghost running = { λ s. s.running };
+
+    ghost said = { λ s. s.metadata };
+
     ghost stored = { λ s. s.stored };
 
     ghost keeps = { Keeps };
@@ -264,6 +275,7 @@ impl<D: Disk> StateMachine<D> for FileStateMachine {
         ensures results { IfOk result (λ results. results ≡ results_of (self.old).map chunk.now) }
         ensures in_order { OnOk result ((out_of_order (self.old).map.mark.index chunk.now ≡ None) × (lacks_lease (self.old).leased chunk.now ≡ false)) }
         ensures lease { (self.new).leased ≡ (self.old).leased }
+        ensures set { IsSetAs (self.old).running (self.old).metadata (self.new).running (self.new).metadata }
         ensures weight { OnOk result (self.new.gate.end ≤ self.old.gate.end + store_rise (entries_size chunk.now)) }
         ensures ready { OnOk result (IsReady self.new) }
         ensures rests { OnOk result (IsTrue (D.kind disk.old).tells → Rests self.new (D.content disk.new)) }
@@ -313,6 +325,30 @@ impl<D: Disk> StateMachine<D> for FileStateMachine {
 
     fn get(&self, key: &[u8]) -> Option<&Blob> {
         self.map.get(key)
+    }
+
+    fn start(&mut self) {
+        self.running = true;
+    }
+
+    fn stop(&mut self) {
+        self.running = false;
+    }
+
+    fn is_running(&self) -> bool {
+        self.running
+    }
+
+    fn snapshot_metadata(&self) -> Option<SnapshotMetadata> {
+        self.metadata
+    }
+
+    fn update_last_snapshot_metadata(&mut self, metadata: SnapshotMetadata) {
+        self.metadata = Some(metadata);
+    }
+
+    fn persist_last_snapshot_metadata(&mut self, metadata: SnapshotMetadata) {
+        self.metadata = Some(metadata);
     }
 
     fn len(&self) -> usize {

@@ -15,11 +15,13 @@ ghost use Rattle.den_model.specs.declared.log_id.LogId.{LogId};
 ghost use Rattle.den_model.specs.Step.{pairs_under};
 ghost use Rattle.den_model.specs.Table.{by_bytes};
 ghost use Rattle.den_lease.specs.Due.{has_due};
+ghost use Rattle.den_state.specs.declared.file_machine.SnapshotMetadata.{SnapshotMetadata};
 ghost use Rattle.den_state.specs.Cleanup.{cleaned_where, removed_where};
 ghost use Rattle.den_state.specs.Scan.{keys_in};
-ghost use Rattle.den_state.specs.Machine.{IsWriteRefusal};
+ghost use Rattle.den_state.specs.Machine.{IsWriteRefusal, IsSetAs, StaysAs};
 ghost use Rattle.den_state.specs.Chunk.{out_of_order, lacks_lease, has_expiry, IsChunkRefusal, LeavesOrEnds};
 
+use crate::SnapshotMetadata;
 use den_codec::{ApplyResult, Blob, Entry, Error, LogId, Rows, ScanResult};
 use den_disk::Disk;
 
@@ -46,6 +48,12 @@ pub trait StateMachine<D: Disk>: Drop {
     /// Whether a lease is configured.
     ghost leased: { Self → Bool };
 
+    /// Whether it was started last, and not stopped.
+    ghost running: { Self → Bool };
+
+    /// What was last said of a snapshot.
+    ghost said: { Self → Option SnapshotMetadata };
+
     /// A number of bytes: what its files and the calls since it was opened handed it, at most. A disk is told to be full
     /// only where four times the weight is above the limit of a file.
     ghost weight: { Self → ℕ };
@@ -64,6 +72,7 @@ pub trait StateMachine<D: Disk>: Drop {
         ensures results { IfOk result (λ results. results ≡ results_of (map self.old) chunk.now) }
         ensures in_order { OnOk result ((out_of_order (map self.old).mark.index chunk.now ≡ None) × (lacks_lease (leased self.old) chunk.now ≡ false)) }
         ensures lease { leased self.new ≡ leased self.old }
+        ensures set { IsSetAs (running self.old) (said self.old) (running self.new) (said self.new) }
         ensures weight { OnOk result (weight self.new ≤ weight self.old + store_rise (entries_size chunk.now)) }
         ensures ready { OnOk result (ready self.new) }
         ensures rests { OnOk result (IsTrue (D.kind disk.old).tells → rests self.new (D.content disk.new)) }
@@ -77,6 +86,7 @@ pub trait StateMachine<D: Disk>: Drop {
         ensures map { map self.new ≡ record (map self.old) { mark = last_applied } }
         ensures stored { stored self.new ≡ stored self.old }
         ensures lease { leased self.new ≡ leased self.old }
+        ensures set { IsSetAs (running self.old) (said self.old) (running self.new) (said self.new) }
         ensures weight { weight self.new ≡ weight self.old }
         ensures ready { ready self.old → ready self.new }
         ensures keeps { (content : Content) → keeps self.old content → keeps self.new content };
@@ -94,6 +104,7 @@ pub trait StateMachine<D: Disk>: Drop {
         ensures spares { IsTrue (D.kind disk.old).tells → SparesOthers state_family (D.content disk.old) (D.content disk.new) }
         ensures map { OnOk result (map self.new ≡ record (map self.old) { mark = last_applied }) }
         ensures lease { leased self.new ≡ leased self.old }
+        ensures set { IsSetAs (running self.old) (said self.old) (running self.new) (said self.new) }
         ensures weight { OnOk result (weight self.new ≤ weight self.old + store_rise 0) }
         ensures ready { OnOk result (ready self.new) }
         ensures rests { OnOk result (IsTrue (D.kind disk.old).tells → rests self.new (D.content disk.new)) }
@@ -112,6 +123,7 @@ pub trait StateMachine<D: Disk>: Drop {
         ensures spares { IsTrue (D.kind disk.old).tells → SparesOthers state_family (D.content disk.old) (D.content disk.new) }
         ensures map { OnOk result (map self.new ≡ map self.old) }
         ensures lease { leased self.new ≡ leased self.old }
+        ensures set { IsSetAs (running self.old) (said self.old) (running self.new) (said self.new) }
         ensures weight { OnOk result (weight self.new ≤ weight self.old + store_rise 0) }
         ensures ready { OnOk result (ready self.new) }
         ensures rests { OnOk result (IsTrue (D.kind disk.old).tells → rests self.new (D.content disk.new)) }
@@ -148,6 +160,7 @@ pub trait StateMachine<D: Disk>: Drop {
         ensures nothing { (leased self.old && has_due (max now 1) (map self.old).expiries) ≡ false → (self.new ≡ self.old) × (disk.new ≡ disk.old) }
         ensures stored { stored self.new ≡ stored self.old }
         ensures lease { leased self.new ≡ leased self.old }
+        ensures set { IsSetAs (running self.old) (said self.old) (running self.new) (said self.new) }
         ensures weight { OnOk result (weight self.new ≤ weight self.old + store_rise 0) }
         ensures ready { OnOk result (ready self.new) }
         ensures keeps { OnOk result (IsTrue (D.kind disk.old).tells → keeps self.new (D.content disk.new)) }
@@ -170,6 +183,31 @@ pub trait StateMachine<D: Disk>: Drop {
     /// The value at a key.
     fn get(&self, key: &[u8]) -> Option<&Blob>
         ensures { option_map (λ b. b.now) result ≡ value_at (part_of (map self.now) 0) key.now };
+
+    fn start(&mut self)
+        ensures set { IsSetAs true (said self.old) (running self.new) (said self.new) }
+        ensures same { StaysAs map stored leased weight ready keeps self.old self.new };
+
+    fn stop(&mut self)
+        ensures set { IsSetAs false (said self.old) (running self.new) (said self.new) }
+        ensures same { StaysAs map stored leased weight ready keeps self.old self.new };
+
+    fn is_running(&self) -> bool
+        ensures { result ≡ running self.now };
+
+    /// What was last said of a snapshot.
+    fn snapshot_metadata(&self) -> Option<SnapshotMetadata>
+        ensures { result ≡ said self.now };
+
+    /// Says something of a snapshot, in memory.
+    fn update_last_snapshot_metadata(&mut self, metadata: SnapshotMetadata)
+        ensures set { IsSetAs (running self.old) (Some metadata) (running self.new) (said self.new) }
+        ensures same { StaysAs map stored leased weight ready keeps self.old self.new };
+
+    /// The same: nothing of it is written.
+    fn persist_last_snapshot_metadata(&mut self, metadata: SnapshotMetadata)
+        ensures set { IsSetAs (running self.old) (Some metadata) (running self.new) (said self.new) }
+        ensures same { StaysAs map stored leased weight ready keeps self.old self.new };
 
     /// How many pairs the map has.
     fn len(&self) -> usize
