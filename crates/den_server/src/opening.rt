@@ -96,7 +96,7 @@ fn open_stores<D: Disk>(alloc: Global, disk: &mut D, data_dir: Label) -> Result<
         Ok(storage) => storage,
         Err(error) => return Err(error),
     };
-    match FileStateMachine::new(alloc, disk) {
+    match FileStateMachine::new(alloc, disk, None) {
         Ok(state) => Ok(stores_of::<D>(storage, state)),
         Err(error) => Err(error),
     }

@@ -40,7 +40,7 @@ told_as s index term moment (command.CompareAndSwap key expected value) =
 
 -- ---- entries in order
 
-order_at : (last index : ℕ) (rest : Option ℕ) → (if nat_lt last index then rest else Some index) ≡ None → (last < index) × (rest ≡ None)
+pub order_at : (last index : ℕ) (rest : Option ℕ) → (if nat_lt last index then rest else Some index) ≡ None → (last < index) × (rest ≡ None)
 order_at last index rest e =
     elim (nat_lt last index) as (λ b. nat_lt last index ≡ b → (if b then rest else Some index) ≡ None → (last < index) × (rest ≡ None)) [
       | true ↦ λ is h. (ltb-true last index is, h)

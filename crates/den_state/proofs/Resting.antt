@@ -1,5 +1,5 @@
 -- What the calls of a state machine in files leave of its files.
-use Rattle.std.proofs.Common.{◌≡◌, inl, ◌↔◌, ℕ, ◌<◌, ◌^◌, IsTrue, Bool, List, [], ◌∷◌, ◌++◌, length, Some, Result, Err, refl, sym, ap, subst, ◌∙◌, arith}
+use Rattle.std.proofs.Common.{◌≡◌, inl, ◌↔◌, ℕ, ◌<◌, ◌^◌, IsTrue, Bool, List, [], ◌∷◌, ◌++◌, length, Some, Result, Ok, Err, OnOk, refl, sym, ap, subst, ◌∙◌, arith}
 use Rattle.den_disk.specs.declared.place.Family.{Family}
 use Rattle.den_disk.specs.declared.place.Family.TheVariants as family
 use Rattle.den_disk.specs.declared.place.Part.{Part}
@@ -16,9 +16,8 @@ use Rattle.den_model.specs.MapState.{MapState, empty_map, map_after_payload, map
 use Rattle.den_gate.specs.declared.gate.GateFile.{GateFile}
 use Rattle.den_gate.specs.Gate.{payloads, IsAtRest, IsCurrent, KeepsOrAddsFamily}
 use Rattle.den_gate.proofs.Families.{rest_list, adds_meaning}
-use Rattle.den_state.specs.declared.file_machine.FileStateMachine.{FileStateMachine}
-use Rattle.den_state.specs.Machine.{Rests, map_held, IsOpeningRefusal}
-use Rattle.den_state.specs.Laws.{map_of_list, map_own, list_means, rests_image}
+use Rattle.den_state.specs.Machine.{Lies, map_held, IsOpeningRefusal}
+use Rattle.den_state.specs.Laws.{map_of_list, map_own, list_means, lies_image}
 use Rattle.den_state.proofs.Lists.{list_push}
 
 -- ---- no call of the disk
@@ -31,10 +30,10 @@ module _ {D : Type 0} (kind : D → Kind) (content : D → Content) (moment : D 
     told = λ tells. record { later = omega arith; past = λ t files le i. i; keeps = λ t files le i. i };
   }
 
-  pub held_still : (s : FileStateMachine) (next : MapState) → ((files : Files) → images disk (moment disk) files ↔ IsImage (content disk) files) → Rests s (content disk)
-      → OldOrNew map_held (images disk) (moment disk) (moment disk) s.map next
-  held_still s next now r = record {
-    each = λ t files from to i. let at : t ≡ moment disk = omega arith in inl (rests_image s (content disk) files r ((now files).0 (subst (λ u. images disk u files) at i)));
+  pub held_still : (gate : GateFile) (m next : MapState) → ((files : Files) → images disk (moment disk) files ↔ IsImage (content disk) files) → Lies gate m (content disk)
+      → OldOrNew map_held (images disk) (moment disk) (moment disk) m next
+  held_still gate m next now l = record {
+    each = λ t files from to i. let at : t ≡ moment disk = omega arith in inl (lies_image gate m (content disk) files l ((now files).0 (subst (λ u. images disk u files) at i)));
   }
 
   pub images_still : (own : Family) → SparesImages own (images disk) (images disk) (moment disk) (moment disk)
@@ -47,23 +46,28 @@ others_still own c = record { reading = λ q ne. refl; pending = λ q ne k h. h 
 
 -- ---- an append
 
-pub held_appended : (s : FileStateMachine) (c : Content) (payload : List ℕ) (next : MapState) (images : ℕ → Files → Type 0) (from to : ℕ) → Rests s c → map_after_payload s.map payload ≡ Some next
-    → KeepsOrAddsFamily s.gate.slot (payloads s.gate c.reading) payload images from to → OldOrNew map_held images from to s.map next
-held_appended s c payload next images from to r after kept =
-    let list = payloads s.gate c.reading in
-    adds_meaning map_held s.gate.slot list payload images from to s.map next
-    (λ files h. list_means s list s.map files r.of_state r.means h)
-    (λ files h. list_means s (list ++ payload ∷ []) next files r.of_state (list_push empty_map s.map next 0 list payload r.means after) h)
+pub held_appended : (gate : GateFile) (m : MapState) (c : Content) (payload : List ℕ) (next : MapState) (images : ℕ → Files → Type 0) (from to : ℕ) → Lies gate m c → map_after_payload m payload ≡ Some next
+    → KeepsOrAddsFamily gate.slot (payloads gate c.reading) payload images from to → OldOrNew map_held images from to m next
+held_appended gate m c payload next images from to l after kept =
+    let list = payloads gate c.reading in
+    adds_meaning map_held gate.slot list payload images from to m next
+    (λ files h. list_means gate list m files l.of_state l.means h)
+    (λ files h. list_means gate (list ++ payload ∷ []) next files l.of_state (list_push empty_map m next 0 list payload l.means after) h)
     kept
 
-pub rests_appended : (s new : FileStateMachine) (old_content new_content : Content) (payload : List ℕ) → Rests s old_content → map_after_payload s.map payload ≡ Some new.map → new.gate.slot ≡ s.gate.slot
-    → IsAtRest new.gate new_content → IsCurrent new.gate.slot new_content → payloads new.gate new_content.reading ≡ payloads s.gate old_content.reading ++ payload ∷ [] → Rests new new_content
-rests_appended s new old_content new_content payload r after slot rest current appended = record {
-  of_state = ap (λ (p : Place). p.family) slot ∙ r.of_state;
+pub lies_appended : (gate new : GateFile) (m next : MapState) (old_content new_content : Content) (payload : List ℕ) → Lies gate m old_content → map_after_payload m payload ≡ Some next → new.slot ≡ gate.slot
+    → IsAtRest new new_content → IsCurrent new.slot new_content → payloads new new_content.reading ≡ payloads gate old_content.reading ++ payload ∷ [] → Lies new next new_content
+lies_appended gate new m next old_content new_content payload l after slot rest current appended = record {
+  of_state = ap (λ (p : Place). p.family) slot ∙ l.of_state;
   at_rest = rest;
   current = current;
-  means = ap (λ list. map_from empty_map (placed 0 list)) appended ∙ list_push empty_map s.map new.map 0 (payloads s.gate old_content.reading) payload r.means after;
+  means = ap (λ list. map_from empty_map (placed 0 list)) appended ∙ list_push empty_map m next 0 (payloads gate old_content.reading) payload l.means after;
 }
+
+-- what two facts of a success give
+pub both_ok : {A B P Q R : Type 0} (r : Result A B) → (P → Q → R) → OnOk r P → OnOk r Q → OnOk r R
+both_ok (Ok x) gives p q = gives p q
+both_ok (Err e) gives p q = tt
 
 -- ---- an opening
 

@@ -1,5 +1,5 @@
 -- How much a journal's region weighs beside the entries that it is of.
-use Rattle.std.proofs.Common.{◌≡◌, ℕ, ◌+◌, ◌*◌, ◌^◌, ◌<◌, ◌≤◌, true, false, List, [], ◌∷◌, length, Option, Ok, refl, sym, ap, ◌∙◌, if◌then◌else◌, arith, length-append}
+use Rattle.std.proofs.Common.{◌≡◌, ℕ, ◌+◌, ◌*◌, ◌^◌, ◌<◌, ◌≤◌, true, false, List, [], ◌∷◌, ◌++◌, length, Option, Ok, refl, sym, ap, ◌∙◌, if◌then◌else◌, arith, length-append}
 use Rattle.std.specs.List.{flat_map}
 use Rattle.den_disk.specs.declared.place.Family.TheVariants as family
 use Rattle.den_disk.specs.declared.place.Part.{Part}
@@ -9,7 +9,7 @@ use Rattle.den_model.specs.declared.command.Command.{Command}
 use Rattle.den_model.specs.declared.command.Command.TheVariants as command
 use Rattle.den_model.specs.declared.journal.JournalRecord.{JournalRecord}
 use Rattle.den_model.specs.declared.journal.JournalRecord.TheVariants as journal
-use Rattle.den_model.specs.declared.region.StateRegion.TheVariants.{Records}
+use Rattle.den_model.specs.declared.region.StateRegion.TheVariants.{Records, Mark}
 use Rattle.den_model.specs.Apply.{succeeds}
 use Rattle.den_model.specs.Entries.{LogEntry}
 use Rattle.den_model.specs.Image.{slot_of}
@@ -96,25 +96,39 @@ weight_appended s es payload old new is appended =
     let same = ap length is in
     omega (arith, light, same, appended)
 
--- a region for which a file has no room
-pub weight_full : (s : MapState) (es : List LogEntry) (payload : List ℕ) (old needed limit : ℕ) → payload ≡ state_region_word (Records (all_recorded s es)) → 2 ^ 43 ≤ limit → limit < needed
-    → needed ≡ room_for old (length payload) → limit < 4 * (old + store_rise (entries_size es))
-weight_full s es payload old needed limit is least above room =
-    let light = light_region s es in
-    let same = ap length is in
-    let chunks = whole_above (old + 10 + length payload) in
-    omega (arith, light, same, least, above, room, chunks)
+-- a region of one cleanup, and one of a mark
+pub light_cleanup : (moment : ℕ) (before payload : List ℕ) → before ≡ [] → payload ≡ before ++ state_region_word (Records (journal.Cleanup moment ∷ [])) → length payload ≤ 128
+light_cleanup moment before payload none is =
+    let whole = ap length (is ∙ ap (λ b. b ++ state_region_word (Records (journal.Cleanup moment ∷ []))) none) in
+    let word : length (state_region_word (Records (journal.Cleanup moment ∷ []))) ≡ 9 + length (flat_map record_word (journal.Cleanup moment ∷ [])) = length_list (journal.Cleanup moment ∷ []) in
+    let one : length (flat_map record_word (journal.Cleanup moment ∷ [])) ≡ length (record_word (journal.Cleanup moment)) + 0 = length-append (record_word (journal.Cleanup moment)) [] in
+    let fields : length (record_word (journal.Cleanup moment)) ≡ 41 + 0 + 0 = length_fields 0 0 6 [] [] moment in
+    omega (arith, whole, word, one, fields)
 
-pub heavy_full : (s : MapState) (es : List LogEntry) (payload : List ℕ) (old most : ℕ) (memory fault : Type 0) (full : ℕ → ℕ → Type 0) (corrupt : Part → ℕ → Type 0) (e : GateError)
-    → payload ≡ state_region_word (Records (all_recorded s es)) → 2 ^ 43 ≤ most → ((needed limit : ℕ) → full needed limit → (needed ≡ room_for old (length payload)) × (limit ≡ most) × (limit < needed))
-    → Because memory fault full corrupt e → IsHeavy most (old + store_rise (entries_size es)) (state_error e)
-heavy_full s es payload old most memory fault full corrupt gate_error.OutOfMemory is least says h = tt
-heavy_full s es payload old most memory fault full corrupt gate_error.StorageIoError is least says h = tt
-heavy_full s es payload old most memory fault full corrupt (gate_error.Full needed limit) is least says h =
+length_mark : (index term : ℕ) → length (state_region_word (Mark index term)) ≡ 17
+length_mark index term = simp (length-append, length_u64_word) (omega arith)
+
+pub light_mark : (index term : ℕ) (before payload : List ℕ) → before ≡ [] → payload ≡ before ++ state_region_word (Mark index term) → length payload ≤ 128
+light_mark index term before payload none is =
+    let whole = ap length (is ∙ ap (λ b. b ++ state_region_word (Mark index term)) none) in
+    omega (arith, whole, length_mark index term)
+
+pub light_payload : (s : MapState) (es : List LogEntry) (payload : List ℕ) → payload ≡ state_region_word (Records (all_recorded s es)) → length payload ≤ 128 + 4 * entries_size es
+light_payload s es payload is = let light = light_region s es in let same = ap length is in omega (arith, light, same)
+
+-- a region for which a file has no room
+pub weight_full : (long old needed limit size : ℕ) → long ≤ 128 + 4 * size → 2 ^ 43 ≤ limit → limit < needed → needed ≡ room_for old long → limit < 4 * (old + store_rise size)
+weight_full long old needed limit size light least above room = let chunks = whole_above (old + 10 + long) in omega (arith, light, least, above, room, chunks)
+
+pub heavy_full : (long old most size : ℕ) (memory fault : Type 0) (full : ℕ → ℕ → Type 0) (corrupt : Part → ℕ → Type 0) (e : GateError) → long ≤ 128 + 4 * size → 2 ^ 43 ≤ most
+    → ((needed limit : ℕ) → full needed limit → (needed ≡ room_for old long) × (limit ≡ most) × (limit < needed)) → Because memory fault full corrupt e → IsHeavy most (old + store_rise size) (state_error e)
+heavy_full long old most size memory fault full corrupt gate_error.OutOfMemory light least says h = tt
+heavy_full long old most size memory fault full corrupt gate_error.StorageIoError light least says h = tt
+heavy_full long old most size memory fault full corrupt (gate_error.Full needed limit) light least says h =
     let f = says needed limit h in
     let below : most < needed = omega arith in
-    weight_full s es payload old needed most is least below f.0
-heavy_full s es payload old most memory fault full corrupt (gate_error.DataCorruption part offset) is least says h = tt
+    weight_full long old needed most size light least below f.0
+heavy_full long old most size memory fault full corrupt (gate_error.DataCorruption part offset) light least says h = tt
 
 -- ---- an opening
 

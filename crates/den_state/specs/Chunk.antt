@@ -1,5 +1,5 @@
 -- Why a chunk of entries is refused.
-use Rattle.std.specs.Prelude.{◌≡◌, ◌<◌, ◌⊎◌, ◌||◌, ℕ, Bool, true, false, List, [], ◌∷◌, length, Option, Some, None, nat_lt, if◌then◌else◌}
+use Rattle.std.specs.Prelude.{◌≡◌, ◌<◌, ◌⊎◌, ◌||◌, ◌&&◌, ℕ, Bool, true, false, not, List, [], ◌∷◌, length, Option, Some, None, nat_lt, if◌then◌else◌}
 use Rattle.den_codec.specs.declared.error.Error.{Error}
 use Rattle.den_codec.specs.declared.error.Error.TheVariants.{OutOfMemory, StorageIoError, DiskFull, FeatureNotEnabled, UnorderedChunk}
 use Rattle.den_model.specs.Entries.{LogEntry}
@@ -20,15 +20,19 @@ abbrev pub asks_lease : List LogEntry → Bool
 asks_lease [] = false
 asks_lease (e ∷ es) = has_ttl e.command || asks_lease es
 
+-- whether an entry has a time to live where no lease is configured
+abbrev pub lacks_lease : Bool → List LogEntry → Bool
+lacks_lease leased chunk = asks_lease chunk && not leased
+
 -- what may refuse these entries behind this mark: their order, then a time to live without a lease, then the disk
 -- and memory
-abbrev pub IsChunkRefusal : Type 0 → ℕ → ℕ → List LogEntry → Error → Type 0
-IsChunkRefusal rose most mark chunk (UnorderedChunk index) = out_of_order mark chunk ≡ Some index
-IsChunkRefusal rose most mark chunk FeatureNotEnabled = (out_of_order mark chunk ≡ None) × (asks_lease chunk ≡ true)
-IsChunkRefusal rose most mark chunk OutOfMemory = (out_of_order mark chunk ≡ None) × (asks_lease chunk ≡ false)
-IsChunkRefusal rose most mark chunk StorageIoError = (out_of_order mark chunk ≡ None) × (asks_lease chunk ≡ false) × rose
-IsChunkRefusal rose most mark chunk (DiskFull needed limit) = (out_of_order mark chunk ≡ None) × (asks_lease chunk ≡ false) × (limit < needed) × (limit ≡ most)
-IsChunkRefusal rose most mark chunk _ = ⊥
+abbrev pub IsChunkRefusal : Bool → Type 0 → ℕ → ℕ → List LogEntry → Error → Type 0
+IsChunkRefusal leased rose most mark chunk (UnorderedChunk index) = out_of_order mark chunk ≡ Some index
+IsChunkRefusal leased rose most mark chunk FeatureNotEnabled = (out_of_order mark chunk ≡ None) × (lacks_lease leased chunk ≡ true)
+IsChunkRefusal leased rose most mark chunk OutOfMemory = (out_of_order mark chunk ≡ None) × (lacks_lease leased chunk ≡ false)
+IsChunkRefusal leased rose most mark chunk StorageIoError = (out_of_order mark chunk ≡ None) × (lacks_lease leased chunk ≡ false) × rose
+IsChunkRefusal leased rose most mark chunk (DiskFull needed limit) = (out_of_order mark chunk ≡ None) × (lacks_lease leased chunk ≡ false) × (limit < needed) × (limit ≡ most)
+IsChunkRefusal leased rose most mark chunk _ = ⊥
 
 -- what a refusal leaves: all as it was, or a state machine of no more use; want of memory either
 abbrev pub LeavesOrEnds : (untouched ended : Type 0) → Error → Type 0

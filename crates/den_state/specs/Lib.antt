@@ -1,6 +1,7 @@
 pub mod Chunk
+pub mod Cleanup
 pub mod Fold
 pub mod Journal
-pub mod Keyed
 pub mod Laws
 pub mod Machine
+pub mod Scan

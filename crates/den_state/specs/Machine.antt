@@ -1,10 +1,11 @@
 -- What a state machine in files is, and why its calls are refused.
-use Rattle.std.specs.Prelude.{◌≡◌, ℕ, Bool, false, IsTrue, List, [], ◌∷◌, Result, Ok, Err, Option}
+use Rattle.std.specs.Prelude.{◌≡◌, ◌≤◌, ◌<◌, ℕ, Bool, false, IsTrue, List, [], ◌∷◌, Result, Ok, Err, Option}
 use Rattle.den_disk.specs.declared.place.Family.TheVariants as family
 use Rattle.den_disk.specs.Place.{place_number}
 use Rattle.den_disk.specs.Files.{Files, Content}
 use Rattle.den_codec.specs.declared.error.Error.{Error}
 use Rattle.den_codec.specs.declared.error.Error.TheVariants as error
+use Rattle.den_gate.specs.declared.gate.GateFile.{GateFile}
 use Rattle.den_gate.specs.declared.error.GateError.{GateError}
 use Rattle.den_gate.specs.declared.error.GateError.TheVariants as gate_error
 use Rattle.den_gate.specs.Gate.{payloads, IsAtRest, IsCurrent}
@@ -15,6 +16,8 @@ use Rattle.den_model.specs.Regions.{placed}
 use Rattle.den_model.specs.Image.{slot_of, map_in, ok}
 use Rattle.den_model.specs.MapState.{MapState, empty_map, map_from}
 use Rattle.den_state.specs.declared.file_machine.FileStateMachine.{FileStateMachine}
+use Rattle.den_state.specs.declared.file_machine.SnapshotMetadata.{SnapshotMetadata}
+use Rattle.den_model.specs.declared.log_id.LogId.{LogId}
 use Rattle.den_state.specs.Journal.{all_recorded}
 
 -- what files give of a map
@@ -25,12 +28,46 @@ map_held files = ok (map_in files)
 abbrev pub IsReady : FileStateMachine → Type 0
 IsReady s = (s.failed ≡ false) × (s.gate.failed ≡ false)
 
--- its gate file is at rest, is the one that the State family's head names, and its payloads give its map
+-- a gate file at rest, the one that the State family's head names, whose payloads give this map
+pub record Lies (gate : GateFile) (m : MapState) (c : Content) : Type 0 where
+  pub of_state : gate.slot.family ≡ family.State
+  pub at_rest : IsAtRest gate c
+  pub current : IsCurrent gate.slot c
+  pub means : map_from empty_map (placed 0 (payloads gate c.reading)) ≡ Ok m
+
+-- its map with the stored mark
+abbrev pub stored_map : FileStateMachine → MapState
+stored_map s = record s.map { mark = s.stored }
+
+-- its files give its pairs and expiries with the stored mark, which is not above the applied one
+pub record Keeps (s : FileStateMachine) (c : Content) : Type 0 where
+  pub files : Lies s.gate (stored_map s) c
+  pub below : s.stored.index ≤ s.map.mark.index
+
+-- its files give its map
 pub record Rests (s : FileStateMachine) (c : Content) : Type 0 where
-  pub of_state : s.gate.slot.family ≡ family.State
-  pub at_rest : IsAtRest s.gate c
-  pub current : IsCurrent s.gate.slot c
-  pub means : map_from empty_map (placed 0 (payloads s.gate c.reading)) ≡ Ok s.map
+  pub files : Lies s.gate s.map c
+  pub stored : s.stored ≡ s.map.mark
+
+-- lease, metadata and running flag are as they were
+pub record IsConfiguredAs (old new : FileStateMachine) : Type 0 where
+  pub leased : new.leased ≡ old.leased
+  pub metadata : new.metadata ≡ old.metadata
+  pub running : new.running ≡ old.running
+
+-- running flag and metadata are so
+pub record IsSetAs (running : Bool) (metadata : Option SnapshotMetadata) (new_running : Bool) (new_metadata : Option SnapshotMetadata) : Type 0 where
+  pub runs : new_running ≡ running
+  pub says : new_metadata ≡ metadata
+
+-- map, marks, lease, weight and files are as they were
+pub record StaysAs {S : Type 0} (map : S → MapState) (stored : S → LogId) (leased : S → Bool) (weight : S → ℕ) (ready : S → Type 0) (keeps : S → Content → Type 0) (old new : S) : Type 0 where
+  pub map_same : map new ≡ map old
+  pub stored_same : stored new ≡ stored old
+  pub lease_same : leased new ≡ leased old
+  pub weight_same : weight new ≡ weight old
+  pub stays_ready : ready old → ready new
+  pub stays_kept : (content : Content) → keeps old content → keeps new content
 
 -- one region of records for entries, and none for no entry
 abbrev pub journaled : MapState → List LogEntry → List (List ℕ)
@@ -62,3 +99,10 @@ abbrev pub IsDurable : {A : Type 0} → Result A Error → Content → Type 0
 IsDurable (Ok s) c = c.pending ≡ []
 IsDurable (Err (error.DataCorruption place offset)) c = c.pending ≡ []
 IsDurable (Err _) c = Unit {0}
+
+-- what may refuse a call that writes one region: want of memory, a fault of the disk, and a disk that is full
+abbrev pub IsWriteRefusal : (memory rose : Type 0) → ℕ → Error → Type 0
+IsWriteRefusal memory rose most error.OutOfMemory = memory
+IsWriteRefusal memory rose most error.StorageIoError = rose
+IsWriteRefusal memory rose most (error.DiskFull needed limit) = (limit < needed) × (limit ≡ most)
+IsWriteRefusal memory rose most _ = ⊥

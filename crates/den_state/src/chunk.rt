@@ -1,5 +1,6 @@
 //! A chunk of entries: its order, and what it makes of the map in memory.
-ghost use Rattle.std.specs.Prelude.{◌≡◌, ◌<◌, ◌||◌, None, Some, IfOk, OnOk};
+ghost use Rattle.std.specs.Prelude.{◌≡◌, ◌<◌, ◌≤◌, ◌||◌, None, Some, IfOk, OnOk, length};
+ghost use Rattle.den_model.specs.declared.log_id.LogId.{LogId};
 ghost use Rattle.den_model.specs.MapState.{map_applied, map_applied_all, map_after_record, map_after_records, map_after_payload, results_of};
 ghost use Rattle.den_model.specs.declared.region.StateRegion.TheVariants.{Records};
 ghost use Rattle.den_model.specs.Spelling.{state_region_word};
@@ -115,7 +116,8 @@ impl Map {
         requires { out_of_order (self.old).mark.index chunk.now ≡ None }
         ensures map { OnOk result (self.new ≡ map_applied_all self.old chunk.now) }
         ensures payload { IfOk result (λ journaled. journaled.payload.items ≡ state_region_word (Records (all_recorded self.old chunk.now))) }
-        ensures means { IfOk result (λ journaled. map_after_payload self.old journaled.payload.items ≡ Some self.new) }
+        ensures means { IfOk result (λ journaled. (from : LogId) → from.index ≤ (self.old).mark.index → 1 ≤ length chunk.now
+            → map_after_payload (record self.old { mark = from }) journaled.payload.items ≡ Some self.new) }
         ensures results { IfOk result (λ journaled. journaled.results.items ≡ results_of self.old chunk.now) }
     {
         let applied = self.apply_all(alloc, chunk)?;

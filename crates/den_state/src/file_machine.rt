@@ -1,37 +1,49 @@
 //! The state machine in files.
-ghost use Rattle.std.specs.Prelude.{◌≡◌, ◌≤◌, ◌<◌, ◌↔◌, ◌+◌, ◌∷◌, ◌++◌, ℕ, List, [], false, None, Ok, Err, IsTrue, IfOk, IfErr, OnOk, length, option_map};
+ghost use Rattle.std.specs.Prelude.{◌≡◌, ◌≤◌, ◌<◌, ◌↔◌, ◌+◌, ◌*◌, ◌∷◌, ◌++◌, ℕ, List, [], true, false, None, Some, Ok, Err, IsTrue, IfSome, is_some, IfOk, IfErr, OnOk, OnErr, length};
 ghost use Rattle.den_disk.specs.declared.place.Family.TheVariants.{State as state_family};
 ghost use Rattle.den_disk.specs.Goes.{Rose, DiskGoesOn};
 ghost use Rattle.den_disk.specs.Families.{SparesAll, SparesOthers, SparesImages, NoNewImages, OldOrNew};
 ghost use Rattle.den_model.specs.Image.{map_in};
-ghost use Rattle.den_model.specs.MapState.{map_applied_all, results_of, part_of};
-ghost use Rattle.den_model.specs.Apply.{value_at};
+ghost use Rattle.den_model.specs.MapState.{MapState, map_applied_all, map_after_payload, results_of};
 ghost use Rattle.den_model.specs.declared.region.StateRegion.TheVariants.{Records};
 ghost use Rattle.den_model.specs.Sizes.{entries_size, family_size, store_rise};
 ghost use Rattle.den_model.specs.Spelling.{state_region_word};
 ghost use Rattle.den_codec.specs.Full.{IsHeavy};
-ghost use Rattle.den_gate.specs.Gate.{payloads};
-ghost use Rattle.den_state.specs.Chunk.{out_of_order, asks_lease, IsChunkRefusal, LeavesOrEnds};
+ghost use Rattle.den_gate.specs.Gate.{payloads, IsAtRest, IsCurrent};
+ghost use Rattle.den_state.specs.Chunk.{out_of_order, lacks_lease, IsChunkRefusal, LeavesOrEnds};
 ghost use Rattle.den_state.specs.Journal.{all_recorded};
-ghost use Rattle.den_state.specs.Machine.{IsReady, Rests, IsDurable, IsOpeningRefusal, OnUntouched, journaled, map_held, state_error};
-ghost use Rattle.den_state.specs.Laws.{rests_spared, held_own, rests_image};
+ghost use Rattle.den_state.specs.Machine.{IsReady, Lies, Keeps, Rests, IsConfiguredAs, IsSetAs, IsDurable, IsOpeningRefusal, IsWriteRefusal, OnUntouched, journaled, map_held, stored_map, state_error};
+ghost use Rattle.den_state.specs.Laws.{rests_spared, keeps_spared, keeps_rested, keeps_settled, held_own, lies_image, rests_image};
 
 use crate::StateMachine;
 use crate::chunk::{asks_lease, out_of_order};
 use crate::fold::ListError;
 use crate::map::Map;
-use den_codec::{ApplyResult, Blob, Entry, Error, LogId, Rows};
+use den_codec::{ApplyResult, Blob, Entry, Error, LogId, Rows, ScanResult};
 use den_disk::{Disk, Family, Place};
 use den_gate::{GateError, GateFile};
+use den_lease::DefaultLease;
 use std::alloc::Global;
 
 /// A map in memory, whose journal is the gate file of the State family.
 #[derive(Drop)]
 pub struct FileStateMachine {
-    alloc: Global,
-    gate: GateFile,
-    map: Map,
-    failed: bool,
+    pub(crate) alloc: Global,
+    pub(crate) gate: GateFile,
+    pub(crate) map: Map,
+    pub(crate) failed: bool,
+    /// The mark that the files hold.
+    pub(crate) stored: LogId,
+    pub(crate) leased: bool,
+    pub(crate) metadata: Option<SnapshotMetadata>,
+    pub(crate) running: bool,
+}
+
+/// What was last said of a snapshot: the last entry that it holds, where that was told, and a checksum.
+#[derive(Clone, Copy, Debug, PartialEq, Eq)]
+pub struct SnapshotMetadata {
+    pub last_included: Option<LogId>,
+    pub checksum: [u8; 32],
 }
 
 // A refusal of the State family's gate file.
@@ -56,14 +68,23 @@ fn state_error(error: GateError) -> Error
 }
 
 impl FileStateMachine {
-    /// The map that the files give. All files are on the disk then.
-    pub fn new<D: Disk>(alloc: Global, disk: &mut D) -> Result<FileStateMachine, Error>
+    /// The map that the files give, with a lease or without one. Expiries in the files are kept also without a lease.
+    /// All files are on the disk then.
+    pub fn new<D: Disk>(
+        alloc: Global,
+        disk: &mut D,
+        lease: Option<DefaultLease>,
+    ) -> Result<FileStateMachine, Error>
+        requires { IfSome lease (λ l. l.map ≡ []) }
         ensures disk { DiskGoesOn D.kind D.moment D.images D.faults disk.old disk.new }
         ensures images { IsTrue (D.kind disk.old).tells → NoNewImages (D.images disk.old) (D.images disk.new) (D.moment disk.old) (D.moment disk.new) }
         ensures spares { IsTrue (D.kind disk.old).tells → SparesAll (D.content disk.old) (D.content disk.new) }
         ensures synced { IsTrue (D.kind disk.old).tells → IsDurable result (D.content disk.new) }
         ensures opened { IsTrue (D.kind disk.old).tells → IfOk result (λ s. map_in (D.content disk.old).reading ≡ Ok s.map) }
         ensures ready { IfOk result IsReady }
+        ensures lease { IfOk result (λ s. s.leased ≡ is_some lease) }
+        ensures metadata { IfOk result (λ s. s.metadata ≡ None) }
+        ensures running { IfOk result (λ s. s.running ≡ true) }
         ensures weight { IsTrue (D.kind disk.old).tells → IfOk result (λ s. s.gate.end ≡ family_size state_family (D.content disk.old).reading) }
         ensures rests { IsTrue (D.kind disk.old).tells → IfOk result (λ s. Rests s (D.content disk.new)) }
         ensures refused { IfErr result (IsOpeningRefusal (Rose (D.faults disk.old) (D.faults disk.new)) (D.kind disk.old).tells (D.content disk.old).reading) }
@@ -78,12 +99,19 @@ impl FileStateMachine {
         };
         let mut map = Map::at(alloc, LogId { index: 0, term: 0 });
         match map.add_list(alloc, list.as_slice()) {
-            Ok(()) => Ok(FileStateMachine {
-                alloc,
-                gate,
-                map,
-                failed: false,
-            }),
+            Ok(()) => {
+                let stored = map.mark();
+                Ok(FileStateMachine {
+                    alloc,
+                    gate,
+                    map,
+                    failed: false,
+                    stored,
+                    leased: lease.is_some(),
+                    metadata: None,
+                    running: true,
+                })
+            }
             Err(ListError::Memory) => Err(Error::OutOfMemory),
             Err(ListError::Unlawful { offset }) => Err(state_error(GateError::DataCorruption {
                 part: gate.part(),
@@ -92,33 +120,33 @@ impl FileStateMachine {
         }
     }
 
-    // Applies entries that are in order and have no time to live: one region of records, whatever becomes of it.
-    fn commit<D: Disk>(&mut self, disk: &mut D, chunk: &[Entry]) -> Result<Rows<ApplyResult>, Error>
-        requires ready { IsReady self.old }
-        requires rests { IsTrue (D.kind disk.old).tells → Rests self.old (D.content disk.old) }
-        requires in_order { out_of_order (self.old).map.mark.index chunk.now ≡ None }
-        requires lease { asks_lease chunk.now ≡ false }
+    // Adds a region to the journal. Where that is refused it has failed. It takes no memory.
+    pub(crate) fn append<D: Disk>(&mut self, disk: &mut D, payload: &[u8]) -> Result<(), Error>
+        requires ready { (self.old).gate.failed ≡ false }
+        requires at_rest { IsTrue (D.kind disk.old).tells → IsAtRest (self.old).gate (D.content disk.old) }
+        requires current { IsTrue (D.kind disk.old).tells → IsCurrent (self.old).gate.slot (D.content disk.old) }
+        requires of_state { IsTrue (D.kind disk.old).tells → (self.old).gate.slot.family ≡ state_family }
         ensures disk { DiskGoesOn D.kind D.moment D.images D.faults disk.old disk.new }
-        ensures own { IsTrue (D.kind disk.old).tells → OldOrNew map_held (D.images disk.new) (D.moment disk.old) (D.moment disk.new) (self.old).map (map_applied_all (self.old).map chunk.now) }
+        ensures own { IsTrue (D.kind disk.old).tells → (before next : MapState) → Lies (self.old).gate before (D.content disk.old) → map_after_payload before payload.now ≡ Some next
+            → OldOrNew map_held (D.images disk.new) (D.moment disk.old) (D.moment disk.new) before next }
         ensures others { IsTrue (D.kind disk.old).tells → SparesImages state_family (D.images disk.old) (D.images disk.new) (D.moment disk.old) (D.moment disk.new) }
         ensures spares { IsTrue (D.kind disk.old).tells → SparesOthers state_family (D.content disk.old) (D.content disk.new) }
-        ensures applied { OnOk result ((self.new).map ≡ map_applied_all (self.old).map chunk.now) }
-        ensures results { IfOk result (λ results. results ≡ results_of (self.old).map chunk.now) }
-        ensures weight { OnOk result (self.new.gate.end ≤ self.old.gate.end + store_rise (entries_size chunk.now)) }
-        ensures ready { OnOk result (IsReady self.new) }
-        ensures rests { OnOk result (IsTrue (D.kind disk.old).tells → Rests self.new (D.content disk.new)) }
+        ensures lies { OnOk result (IsTrue (D.kind disk.old).tells → (before next : MapState) → Lies (self.old).gate before (D.content disk.old) → map_after_payload before payload.now ≡ Some next
+            → Lies (self.new).gate next (D.content disk.new)) }
         ensures appended { OnOk result (IsTrue (D.kind disk.old).tells →
-            payloads (self.new).gate (D.content disk.new).reading ≡ payloads (self.old).gate (D.content disk.old).reading ++ state_region_word (Records (all_recorded (self.old).map chunk.now)) ∷ []) }
-        ensures refused { IfErr result (IsChunkRefusal (Rose (D.faults disk.old) (D.faults disk.new)) (D.kind disk.old).limit (self.old).map.mark.index chunk.now) }
-        ensures heavy { IfErr result (IsHeavy (D.kind disk.old).limit (self.old.gate.end + store_rise (entries_size chunk.now))) }
-        ensures failed { IfErr result (LeavesOrEnds ⊥ (IsReady self.new → ⊥)) }
+            payloads (self.new).gate (D.content disk.new).reading ≡ payloads (self.old).gate (D.content disk.old).reading ++ payload.now ∷ []) }
+        ensures end { OnOk result ((self.new).gate.end ≡ (self.old).gate.end + (9 + length payload.now)) }
+        ensures ready { OnOk result (IsReady self.new) }
+        ensures failed { OnErr result ((self.new).failed ≡ true) }
+        ensures rest { self.new ≡ record self.old { gate = (self.new).gate; failed = (self.new).failed } }
+        ensures refused { IfErr result (IsWriteRefusal ⊥ (Rose (D.faults disk.old) (D.faults disk.new)) (D.kind disk.old).limit) }
+        ensures heavy { IfErr result (λ e. (size : ℕ) → length payload.now ≤ 128 + 4 * size → IsHeavy (D.kind disk.old).limit ((self.old).gate.end + store_rise size) e) }
     {
         self.failed = true;
-        let journaled = self.map.journal(self.alloc, chunk)?;
-        match self.gate.append(disk, &journaled.payload) {
+        match self.gate.append(disk, payload) {
             Ok(()) => {
                 self.failed = false;
-                Ok(Rows::of(journaled.results))
+                Ok(())
             }
             Err(error) => {
                 let limit = disk.limit();
@@ -128,11 +156,73 @@ impl FileStateMachine {
         }
     }
 
-    /// How many pairs the map has.
-    pub fn len(&self) -> usize
-        ensures { result ≡ length self.now.map.pairs }
+    // Applies entries that are in order and may live as long as they ask: one region of records, whatever becomes of it.
+    fn commit<D: Disk>(&mut self, disk: &mut D, chunk: &[Entry]) -> Result<Rows<ApplyResult>, Error>
+        requires ready { IsReady self.old }
+        requires keeps { IsTrue (D.kind disk.old).tells → Keeps self.old (D.content disk.old) }
+        requires in_order { out_of_order (self.old).map.mark.index chunk.now ≡ None }
+        requires some { 1 ≤ length chunk.now }
+        ensures disk { DiskGoesOn D.kind D.moment D.images D.faults disk.old disk.new }
+        ensures own { IsTrue (D.kind disk.old).tells → OldOrNew map_held (D.images disk.new) (D.moment disk.old) (D.moment disk.new) (stored_map self.old) (map_applied_all (self.old).map chunk.now) }
+        ensures others { IsTrue (D.kind disk.old).tells → SparesImages state_family (D.images disk.old) (D.images disk.new) (D.moment disk.old) (D.moment disk.new) }
+        ensures spares { IsTrue (D.kind disk.old).tells → SparesOthers state_family (D.content disk.old) (D.content disk.new) }
+        ensures applied { OnOk result ((self.new).map ≡ map_applied_all (self.old).map chunk.now) }
+        ensures results { IfOk result (λ results. results ≡ results_of (self.old).map chunk.now) }
+        ensures weight { OnOk result (self.new.gate.end ≤ self.old.gate.end + store_rise (entries_size chunk.now)) }
+        ensures ready { OnOk result (IsReady self.new) }
+        ensures rests { OnOk result (IsTrue (D.kind disk.old).tells → Rests self.new (D.content disk.new)) }
+        ensures appended { OnOk result (IsTrue (D.kind disk.old).tells →
+            payloads (self.new).gate (D.content disk.new).reading ≡ payloads (self.old).gate (D.content disk.old).reading ++ state_region_word (Records (all_recorded (self.old).map chunk.now)) ∷ []) }
+        ensures same { IsConfiguredAs self.old self.new }
+        ensures failed { OnErr result ((self.new).failed ≡ true) }
+        ensures refused { IfErr result (IsWriteRefusal (Unit {0}) (Rose (D.faults disk.old) (D.faults disk.new)) (D.kind disk.old).limit) }
+        ensures heavy { IfErr result (IsHeavy (D.kind disk.old).limit (self.old.gate.end + store_rise (entries_size chunk.now))) }
     {
-        self.map.len()
+        self.failed = true;
+        let journaled = self.map.journal(self.alloc, chunk)?;
+        self.append(disk, &journaled.payload)?;
+        self.stored = self.map.mark();
+        Ok(Rows::of(journaled.results))
+    }
+
+    /// Applies entries as `apply_chunk` does, also where the applied mark is not stored. A chunk that is refused for its order or for want of a lease leaves all as it was, as does one without entries.
+    /// Any other adds one region to the journal.
+    pub fn apply<D: Disk>(
+        &mut self,
+        disk: &mut D,
+        chunk: &[Entry],
+    ) -> Result<Rows<ApplyResult>, Error>
+        requires ready { IsReady self.old }
+        requires keeps { IsTrue (D.kind disk.old).tells → Keeps self.old (D.content disk.old) }
+        ensures disk { DiskGoesOn D.kind D.moment D.images D.faults disk.old disk.new }
+        ensures own { IsTrue (D.kind disk.old).tells → OldOrNew map_held (D.images disk.new) (D.moment disk.old) (D.moment disk.new) (stored_map self.old) (map_applied_all (self.old).map chunk.now) }
+        ensures others { IsTrue (D.kind disk.old).tells → SparesImages state_family (D.images disk.old) (D.images disk.new) (D.moment disk.old) (D.moment disk.new) }
+        ensures spares { IsTrue (D.kind disk.old).tells → SparesOthers state_family (D.content disk.old) (D.content disk.new) }
+        ensures applied { OnOk result ((self.new).map ≡ map_applied_all (self.old).map chunk.now) }
+        ensures results { IfOk result (λ results. results ≡ results_of (self.old).map chunk.now) }
+        ensures in_order { OnOk result ((out_of_order (self.old).map.mark.index chunk.now ≡ None) × (lacks_lease (self.old).leased chunk.now ≡ false)) }
+        ensures same { IsConfiguredAs self.old self.new }
+        ensures weight { OnOk result (self.new.gate.end ≤ self.old.gate.end + store_rise (entries_size chunk.now)) }
+        ensures ready { OnOk result (IsReady self.new) }
+        ensures rests { OnOk result (1 ≤ length chunk.now → IsTrue (D.kind disk.old).tells → Rests self.new (D.content disk.new)) }
+        ensures refused { IfErr result (IsChunkRefusal (self.old).leased (Rose (D.faults disk.old) (D.faults disk.new)) (D.kind disk.old).limit (self.old).map.mark.index chunk.now) }
+        ensures heavy { IfErr result (IsHeavy (D.kind disk.old).limit (self.old.gate.end + store_rise (entries_size chunk.now))) }
+        ensures failed { IfErr result (LeavesOrEnds ((self.new ≡ self.old) × (disk.new ≡ disk.old)) (IsReady self.new → ⊥)) }
+        ensures untouched { IfErr result (OnUntouched ((self.new ≡ self.old) × (disk.new ≡ disk.old))) }
+        ensures nothing { chunk.now ≡ [] → (self.new ≡ self.old) × (disk.new ≡ disk.old) }
+        ensures appended { OnOk result (IsTrue (D.kind disk.old).tells →
+            payloads (self.new).gate (D.content disk.new).reading ≡ payloads (self.old).gate (D.content disk.old).reading ++ journaled (self.old).map chunk.now) }
+    {
+        if let Some(index) = out_of_order(self.map.mark().index, chunk) {
+            return Err(Error::UnorderedChunk { index });
+        }
+        if !self.leased && asks_lease(chunk) {
+            return Err(Error::FeatureNotEnabled);
+        }
+        if chunk.is_empty() {
+            return Ok(Rows::of(Vec::new(self.alloc)));
+        }
+        self.commit(disk, chunk)
     }
 }
 
@@ -145,14 +235,32 @@ impl<D: Disk> StateMachine<D> for FileStateMachine {
 
     ghost ready = { IsReady };
 
+    ghost leased = { λ s. s.leased };
+
+    ghost running = { λ s. s.running };
+
+    ghost said = { λ s. s.metadata };
+
+    ghost stored = { λ s. s.stored };
+
+    ghost keeps = { Keeps };
+
     /// The regions of its journal.
     ghost weight = { λ s. s.gate.end };
 
     ghost rests_own = { rests_spared };
 
+    ghost keeps_own = { keeps_spared };
+
     ghost holds_own = { held_own };
 
     ghost rests_hold = { λ s c files ready rests image. rests_image s c files rests image };
+
+    ghost keeps_hold = { λ s c files ready keeps image. lies_image s.gate (stored_map s) c files keeps.files image };
+
+    ghost rests_keep = { λ s c rests. (keeps_rested s c rests, rests.stored) };
+
+    ghost keeps_rest = { keeps_settled };
 
     /// A chunk that is refused for its order or for want of a lease leaves all as it was, as does one without entries.
     /// Any other adds one region to the journal.
@@ -165,11 +273,13 @@ impl<D: Disk> StateMachine<D> for FileStateMachine {
         ensures spares { IsTrue (D.kind disk.old).tells → SparesOthers state_family (D.content disk.old) (D.content disk.new) }
         ensures applied { OnOk result ((self.new).map ≡ map_applied_all (self.old).map chunk.now) }
         ensures results { IfOk result (λ results. results ≡ results_of (self.old).map chunk.now) }
-        ensures in_order { OnOk result ((out_of_order (self.old).map.mark.index chunk.now ≡ None) × (asks_lease chunk.now ≡ false)) }
+        ensures in_order { OnOk result ((out_of_order (self.old).map.mark.index chunk.now ≡ None) × (lacks_lease (self.old).leased chunk.now ≡ false)) }
+        ensures lease { (self.new).leased ≡ (self.old).leased }
+        ensures set { IsSetAs (self.old).running (self.old).metadata (self.new).running (self.new).metadata }
         ensures weight { OnOk result (self.new.gate.end ≤ self.old.gate.end + store_rise (entries_size chunk.now)) }
         ensures ready { OnOk result (IsReady self.new) }
         ensures rests { OnOk result (IsTrue (D.kind disk.old).tells → Rests self.new (D.content disk.new)) }
-        ensures refused { IfErr result (IsChunkRefusal (Rose (D.faults disk.old) (D.faults disk.new)) (D.kind disk.old).limit (self.old).map.mark.index chunk.now) }
+        ensures refused { IfErr result (IsChunkRefusal (self.old).leased (Rose (D.faults disk.old) (D.faults disk.new)) (D.kind disk.old).limit (self.old).map.mark.index chunk.now) }
         ensures heavy { IfErr result (IsHeavy (D.kind disk.old).limit (self.old.gate.end + store_rise (entries_size chunk.now))) }
         ensures failed { IfErr result (LeavesOrEnds ((self.new ≡ self.old) × (disk.new ≡ disk.old)) (IsReady self.new → ⊥)) }
         ensures untouched { IfErr result (OnUntouched ((self.new ≡ self.old) × (disk.new ≡ disk.old))) }
@@ -177,21 +287,36 @@ impl<D: Disk> StateMachine<D> for FileStateMachine {
         ensures appended { OnOk result (IsTrue (D.kind disk.old).tells →
             payloads (self.new).gate (D.content disk.new).reading ≡ payloads (self.old).gate (D.content disk.old).reading ++ journaled (self.old).map chunk.now) }
     {
-        if let Some(index) = out_of_order(self.map.mark().index, chunk) {
-            return Err(Error::UnorderedChunk { index });
-        }
-        if asks_lease(chunk) {
-            return Err(Error::FeatureNotEnabled);
-        }
-        if chunk.is_empty() {
-            return Ok(Rows::of(Vec::new(self.alloc)));
-        }
-        self.commit(disk, chunk)
+        self.apply(disk, chunk)
+    }
+
+    fn update_last_applied(&mut self, last_applied: LogId) {
+        self.move_mark(last_applied);
+    }
+
+    fn persist_last_applied(&mut self, disk: &mut D, last_applied: LogId) -> Result<(), Error> {
+        self.store_mark(disk, last_applied)
+    }
+
+    fn save_hard_state(&mut self, disk: &mut D) -> Result<(), Error> {
+        self.store_applied(disk)
+    }
+
+    fn close(self, disk: &mut D) -> Result<(), Error> {
+        self.end(disk)
+    }
+
+    fn lease_background_cleanup(&mut self, disk: &mut D, now: u64) -> Result<Rows<Blob>, Error> {
+        self.clean_up(disk, now)
     }
 
     /// Whether a call failed after it had begun to change the map. It is opened anew then.
     fn is_failed(&self) -> bool {
         self.failed || self.gate.is_failed()
+    }
+
+    fn has_lease(&self) -> bool {
+        self.leased
     }
 
     fn holds_expiry(&self) -> bool {
@@ -200,6 +325,49 @@ impl<D: Disk> StateMachine<D> for FileStateMachine {
 
     fn get(&self, key: &[u8]) -> Option<&Blob> {
         self.map.get(key)
+    }
+
+    fn start(&mut self) {
+        self.running = true;
+    }
+
+    fn stop(&mut self) {
+        self.running = false;
+    }
+
+    fn is_running(&self) -> bool {
+        self.running
+    }
+
+    fn snapshot_metadata(&self) -> Option<SnapshotMetadata> {
+        self.metadata
+    }
+
+    fn update_last_snapshot_metadata(&mut self, metadata: SnapshotMetadata) {
+        self.metadata = Some(metadata);
+    }
+
+    fn persist_last_snapshot_metadata(&mut self, metadata: SnapshotMetadata) {
+        self.metadata = Some(metadata);
+    }
+
+    fn len(&self) -> usize {
+        self.map.len()
+    }
+
+    fn is_empty(&self) -> bool {
+        self.map.len() == 0
+    }
+
+    fn scan_prefix(&self, prefix: &[u8]) -> Result<ScanResult, Error> {
+        Ok(ScanResult {
+            entries: self.map.pairs_under(self.alloc, prefix)?,
+            revision: self.map.mark().index,
+        })
+    }
+
+    fn entry_term(&self, _entry_id: u64) -> Option<u64> {
+        None
     }
 
     fn last_applied(&self) -> LogId {

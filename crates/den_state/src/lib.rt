@@ -1,13 +1,14 @@
 //! The state machine: the map, its journal and its mark.
 #![tactic(auto)]
 
-mod byte_map;
 mod chunk;
+mod cleanup;
 mod file_machine;
 mod fold;
+mod holding;
 mod machine;
 mod map;
+mod marks;
 
-pub use byte_map::ByteMap;
-pub use file_machine::FileStateMachine;
+pub use file_machine::{FileStateMachine, SnapshotMetadata};
 pub use machine::StateMachine;

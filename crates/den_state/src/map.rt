@@ -4,11 +4,17 @@ ghost use Rattle.std.specs.Option.{option_eq};
 ghost use Rattle.std.specs.Cmp.Lexicographic.{pointwise};
 ghost use Rattle.den_model.specs.Apply.{value_at, seconds_after, kept_pairs, kept_expiries};
 ghost use Rattle.den_model.specs.MapState.{MapState, empty_map, part_of, with_pair};
+ghost use Rattle.std.specs.List.Sorted.{IsStrictlySortedBy};
+ghost use Rattle.den_model.specs.Step.{begins_with, pairs_under};
+ghost use Rattle.den_model.specs.Table.{by_bytes};
+ghost use Rattle.den_lease.specs.Due.{has_due, due_keys};
+ghost use Rattle.den_state.specs.Cleanup.{cleaned_map};
+ghost use Rattle.den_state.specs.Scan.{keys_in};
 ghost use Rattle.den_state.specs.Fold.{carried};
 ghost use Rattle.den_state.specs.Journal.{expiry_of, recorded};
 
-use crate::ByteMap;
-use den_codec::{Blob, Command, Entry, Held, JournalRecord, LogId, Positive};
+use den_codec::{Blob, Command, Entry, Held, JournalRecord, KvEntry, LogId, Positive, Rows};
+use den_lease::ByteMap;
 use std::alloc::{AllocError, Global};
 use std::marker::Model;
 
@@ -16,7 +22,7 @@ use std::marker::Model;
 #[derive(Drop)]
 pub struct Map {
     pairs: ByteMap<Held>,
-    expiries: ByteMap<u64>,
+    expiries: ByteMap<Positive>,
     mark: LogId,
 }
 
@@ -36,6 +42,15 @@ fn expiry_of(moment: u64, ttl_secs: Option<u64>) -> u64
         None => 0,
         Some(seconds) => moment.saturating_add(seconds.saturating_mul(1000)),
     }
+}
+
+fn begins_with(key: &[u8], prefix: &[u8]) -> bool
+    ensures { result ≡ begins_with key.now prefix.now }
+{
+    if key.len() < prefix.len() {
+        return false;
+    }
+    prefix == &key[..prefix.len()]
 }
 
 impl Map {
@@ -155,10 +170,50 @@ impl Map {
         ensures { OnOk result (self.new ≡ with_pair self.old key.now held.value held.term expiry) }
     {
         self.pairs.insert(alloc, key.as_slice(), held)?;
-        if expiry != 0 {
+        if let Some(expiry) = Positive::new(expiry) {
             self.expiries.insert(alloc, key.as_slice(), expiry)?;
         }
         Ok(())
+    }
+
+    /// Removes each key whose expiry is at most the moment, with its expiry.
+    pub fn clean(&mut self, moment: Positive)
+        ensures { self.new ≡ cleaned_map moment self.old }
+    {
+        self.pairs.drop_expired(&self.expiries, moment.get());
+        self.expiries.drop_until(moment.get());
+    }
+
+    /// Whether some key has expired at the moment.
+    pub fn has_due(&self, moment: u64) -> bool
+        ensures { result ≡ has_due moment self.now.expiries }
+    {
+        self.expiries.has_due(moment)
+    }
+
+    /// The keys that have expired at the moment, sorted.
+    pub fn due_keys(&self, alloc: Global, moment: u64) -> Result<Rows<Blob>, AllocError>
+        ensures keys { IfOk result (λ keys. keys ≡ due_keys moment self.now.expiries) }
+        ensures sorted { IfOk result (λ keys. IsStrictlySortedBy by_bytes keys) }
+    {
+        self.expiries.due_keys(alloc, moment)
+    }
+
+    /// The pairs whose keys begin with the prefix, sorted.
+    pub fn pairs_under(&self, alloc: Global, prefix: &[u8]) -> Result<Rows<KvEntry>, AllocError>
+        ensures pairs { IfOk result (λ pairs. pairs ≡ pairs_under self.now.pairs prefix.now) }
+        ensures sorted { IfOk result (λ pairs. IsStrictlySortedBy by_bytes (keys_in pairs)) }
+    {
+        let mut pairs = Vec::new(alloc);
+        for (key, held) in self.pairs.iter() {
+            if begins_with(key.as_slice(), prefix) {
+                pairs.push(KvEntry {
+                    key: Blob::of(alloc, key.as_slice())?,
+                    value: held.value.copy()?,
+                })?;
+            }
+        }
+        Ok(Rows::of(pairs))
     }
 
     /// What a record does to pairs and expiries.
@@ -184,10 +239,7 @@ impl Map {
                 self.pairs.remove(key.as_slice());
                 self.expiries.remove(key.as_slice());
             }
-            JournalRecord::Cleanup { moment } => {
-                self.pairs.drop_expired(&self.expiries, moment.get());
-                self.expiries.drop_until(moment.get());
-            }
+            JournalRecord::Cleanup { moment } => self.clean(*moment),
         }
         Ok(())
     }

@@ -1,0 +1,2 @@
+pub mod KeyedBy
+pub mod Rising

@@ -1,0 +1,17 @@
+use Rattle.std.proofs.lemmas.Result.{err_from_is_err_and}
+use Rattle.den_model.specs.Reading.{items_at}
+use Rattle.den_codec.proofs.Items.{goes_on, ends, is_done}
+use Rattle.den_lease.specs.Words.{lease_at}
+use Rattle.den_lease.proofs.snapshot.take_rows.Goals as goal
+
+pub returns-in_err-row : goal.returns-in_err-row
+returns-in_err-row c =
+    let p = err_from_is_err_and c.from_residual.result c.from_residual.ensures.1 in
+    rw (p.1, p.2) (ends lease_at c.in_err-row.field-0.0 c.loop.rows.items c.args.count c.loop.counter c.loop.rest.now (items_at lease_at c.args.count c.args.bytes.now) c.loop-test.true c.in_err-row.ensures c.loop.invariant)
+
+pub loop-preserved : goal.loop-preserved
+loop-preserved c =
+    rw c.in_ok-push.ensures.items (goes_on lease_at c.loop.rows.items c.args.count c.loop.counter c.loop.rest.now c.in_ok-row.row c.in_ok-row.after.now (items_at lease_at c.args.count c.args.bytes.now) c.loop-test.true c.in_ok-row.ensures c.loop.invariant)
+
+pub returns : goal.returns
+returns c = rw c.of.ensures (is_done lease_at c.loop.rows.items c.args.count c.loop.counter c.loop.rest.now (items_at lease_at c.args.count c.args.bytes.now) c.loop-test.false c.loop.invariant)

@@ -1,0 +1,91 @@
+//! A map keyed by bytes.
+ghost use Rattle.std.specs.Prelude.{◌≡◌, ℕ, List, [], Option, option_copied, OnOk, OnErr, is_some, length};
+ghost use Rattle.std.specs.List.Sorted.{IsStrictlySortedBy};
+ghost use Rattle.std.specs.Map.{keys_of};
+ghost use Rattle.den_model.specs.Table.{at, by_bytes, set, unset, is_held};
+ghost use Rattle.den_lease.specs.Keyed.{keyed};
+
+use std::alloc::{AllocError, Global};
+use std::collections::BTreeMap;
+use std::collections::btree_map::Iter;
+use std::marker::Model;
+
+/// Values at keys, seen as the table of them.
+#[derive(Drop)]
+pub struct ByteMap<V> {
+    pub(crate) map: BTreeMap<Vec<u8>, V>,
+}
+
+impl<V> Model for ByteMap<V> {
+    ghost use Rattle.std.specs.Coded.{coded_ℕ, coded_list, coded×};
+    ghost use Rattle.den_model.specs.Table.{Table};
+
+    ghost Value = { Table V };
+
+    ghost coded = { coded_list (coded× (coded_list coded_ℕ) V.code) };
+
+    ghost use Rattle.den_lease.specs.Keyed.{keyed};
+
+    ghost view = { λ p. keyed p.map.entries };
+}
+
+impl<V> ByteMap<V> {
+    /// A map that holds no key.
+    pub fn new(alloc: Global) -> Self
+        ensures { result ≡ [] }
+    {
+        ByteMap {
+            map: BTreeMap::new(alloc),
+        }
+    }
+
+    /// How many keys are held.
+    pub fn len(&self) -> usize
+        ensures { result ≡ length self.now }
+    {
+        self.map.len()
+    }
+
+    /// The value at the key, if it is held.
+    pub fn get(&self, key: &[u8]) -> Option<&V>
+        ensures { option_copied result ≡ at self.now key.now }
+    {
+        self.map.get(key)
+    }
+
+    /// Whether the key is held.
+    pub fn contains(&self, key: &[u8]) -> bool
+        ensures { result ≡ is_held self.now key.now }
+    {
+        self.map.contains_key(key)
+    }
+}
+
+impl<V> ByteMap<V> {
+    /// Each key with its value, in the order of the keys.
+    pub fn iter(&self) -> Iter<'_, Vec<u8>, V>
+        ensures entries { keyed result ≡ self.now }
+        ensures sorted { IsStrictlySortedBy by_bytes (keys_of self.now) }
+    {
+        self.map.iter()
+    }
+}
+
+impl<V: Drop> ByteMap<V> {
+    /// Puts the value at the key, in place of what it held. On refusal nothing changes.
+    pub fn insert(&mut self, alloc: Global, key: &[u8], value: V) -> Result<(), AllocError>
+        ensures ok { OnOk result (self.new ≡ set self.old key.now value) }
+        ensures err { OnErr result (self.new ≡ self.old) }
+    {
+        let key = Vec::from_slice(alloc, key)?;
+        self.map.insert(key, value)?;
+        Ok(())
+    }
+
+    /// Takes the key away.
+    pub fn remove(&mut self, key: &[u8])
+        ensures { self.new ≡ unset self.old key.now }
+    {
+        self.map.remove(key);
+    }
+}
