@@ -1,5 +1,5 @@
 //! Worked rows: a log from its bytes, edits of it, and random edits beside a plain list of pairs.
-ghost use Rattle.std.specs.Prelude.{◌≡◌, ◌<◌, IsTrue, IfSome, IfOk};
+ghost use Rattle.std.specs.Prelude.{◌≡◌, ◌<◌, IsTrue, IfSome, IfOk, OnOk};
 ghost use Rattle.den_model.specs.Log.{floor};
 ghost use Rattle.den_store.specs.Engine.{BothReady, BothRest};
 ghost use Rattle.den_store.specs.FileLog.{file_log, IsLogReady, LogRests};
@@ -132,8 +132,6 @@ struct Bench {
     alloc: Global,
     disk: MemDisk,
     store: FileLogStore,
-    ghost ready: { ∥ IsLogReady store ∥₁ },
-    ghost rests: { ∥ LogRests store (⟦<MemDisk as Disk>⟧.content disk) ∥₁ },
 }
 
 fn floor_of(store: &FileLogStore) -> u64
@@ -155,32 +153,59 @@ fn is_above(store: &FileLogStore, from: u64) -> bool
     }
 }
 
+// Adds entries, which have to rise above the boundary.
+fn persist(disk: &mut MemDisk, store: &mut FileLogStore, entries: &[Entry]) -> Result<(), Fail>
+    requires ready { IsLogReady store.old }
+    requires rests { LogRests store.old (⟦<MemDisk as Disk>⟧.content disk.old) }
+    ensures ready { OnOk result (IsLogReady store.new) }
+    ensures rests { OnOk result (LogRests store.new (⟦<MemDisk as Disk>⟧.content disk.new)) }
+{
+    let from = floor_of(store).checked_add(1).ok_or("a great floor")?;
+    if !rise_from(from, entries) {
+        return Err("no rising entries")?;
+    }
+    store.persist_entries(disk, entries)?;
+    Ok(())
+}
+
 impl Bench {
-    fn open(alloc: Global, mut disk: MemDisk) -> Result<Bench, Fail> {
+    fn open(alloc: Global, mut disk: MemDisk) -> Result<Bench, Fail>
+        ensures ready { IfOk result (λ b. IsLogReady b.store) }
+        ensures rests { IfOk result (λ b. LogRests b.store (⟦<MemDisk as Disk>⟧.content b.disk)) }
+    {
         let store = FileLogStore::new(alloc, &mut disk)?;
         Ok(Bench { alloc, disk, store })
     }
 
-    fn reopened(self) -> Result<Bench, Fail> {
+    fn reopened(self) -> Result<Bench, Fail>
+        ensures ready { IfOk result (λ b. IsLogReady b.store) }
+        ensures rests { IfOk result (λ b. LogRests b.store (⟦<MemDisk as Disk>⟧.content b.disk)) }
+    {
         Bench::open(self.alloc, self.disk)
     }
 
-    fn persist(self, pairs: &[(u64, u64)]) -> Result<Bench, Fail> {
+    fn persist(self, pairs: &[(u64, u64)]) -> Result<Bench, Fail>
+        requires ready { IsLogReady self.store }
+        requires rests { LogRests self.store (⟦<MemDisk as Disk>⟧.content self.disk) }
+        ensures ready { IfOk result (λ b. IsLogReady b.store) }
+        ensures rests { IfOk result (λ b. LogRests b.store (⟦<MemDisk as Disk>⟧.content b.disk)) }
+    {
         let Bench {
             alloc,
             mut disk,
             mut store,
         } = self;
         let entries = entries_of(alloc, pairs)?;
-        let from = floor_of(&store).checked_add(1).ok_or("a great floor")?;
-        if !rise_from(from, entries.as_slice()) {
-            return Err("no rising entries")?;
-        }
-        store.persist_entries(&mut disk, entries.as_slice())?;
+        persist(&mut disk, &mut store, entries.as_slice())?;
         Ok(Bench { alloc, disk, store })
     }
 
-    fn replace(self, from: u64, pairs: &[(u64, u64)]) -> Result<Bench, Fail> {
+    fn replace(self, from: u64, pairs: &[(u64, u64)]) -> Result<Bench, Fail>
+        requires ready { IsLogReady self.store }
+        requires rests { LogRests self.store (⟦<MemDisk as Disk>⟧.content self.disk) }
+        ensures ready { IfOk result (λ b. IsLogReady b.store) }
+        ensures rests { IfOk result (λ b. LogRests b.store (⟦<MemDisk as Disk>⟧.content b.disk)) }
+    {
         let Bench {
             alloc,
             mut disk,
@@ -194,7 +219,12 @@ impl Bench {
         Ok(Bench { alloc, disk, store })
     }
 
-    fn purge(self, cutoff: LogId) -> Result<Bench, Fail> {
+    fn purge(self, cutoff: LogId) -> Result<Bench, Fail>
+        requires ready { IsLogReady self.store }
+        requires rests { LogRests self.store (⟦<MemDisk as Disk>⟧.content self.disk) }
+        ensures ready { IfOk result (λ b. IsLogReady b.store) }
+        ensures rests { IfOk result (λ b. LogRests b.store (⟦<MemDisk as Disk>⟧.content b.disk)) }
+    {
         let Bench {
             alloc,
             mut disk,
@@ -204,7 +234,12 @@ impl Bench {
         Ok(Bench { alloc, disk, store })
     }
 
-    fn truncate(self, from: u64) -> Result<Bench, Fail> {
+    fn truncate(self, from: u64) -> Result<Bench, Fail>
+        requires ready { IsLogReady self.store }
+        requires rests { LogRests self.store (⟦<MemDisk as Disk>⟧.content self.disk) }
+        ensures ready { IfOk result (λ b. IsLogReady b.store) }
+        ensures rests { IfOk result (λ b. LogRests b.store (⟦<MemDisk as Disk>⟧.content b.disk)) }
+    {
         let Bench {
             alloc,
             mut disk,
@@ -214,7 +249,12 @@ impl Bench {
         Ok(Bench { alloc, disk, store })
     }
 
-    fn reset(self) -> Result<Bench, Fail> {
+    fn reset(self) -> Result<Bench, Fail>
+        requires ready { IsLogReady self.store }
+        requires rests { LogRests self.store (⟦<MemDisk as Disk>⟧.content self.disk) }
+        ensures ready { IfOk result (λ b. IsLogReady b.store) }
+        ensures rests { IfOk result (λ b. LogRests b.store (⟦<MemDisk as Disk>⟧.content b.disk)) }
+    {
         let Bench {
             alloc,
             mut disk,
@@ -224,7 +264,12 @@ impl Bench {
         Ok(Bench { alloc, disk, store })
     }
 
-    fn make(self, edit: &Edit) -> Result<Bench, Fail> {
+    fn make(self, edit: &Edit) -> Result<Bench, Fail>
+        requires ready { IsLogReady self.store }
+        requires rests { LogRests self.store (⟦<MemDisk as Disk>⟧.content self.disk) }
+        ensures ready { IfOk result (λ b. IsLogReady b.store) }
+        ensures rests { IfOk result (λ b. LogRests b.store (⟦<MemDisk as Disk>⟧.content b.disk)) }
+    {
         match edit {
             Edit::Persist(pairs) => self.persist(pairs.as_slice()),
             Edit::Purge(cutoff) => self.purge(*cutoff),
@@ -420,6 +465,13 @@ fn engine_of(alloc: Global, disk: &mut MemDisk) -> Result<FileStorageEngine, Fai
     Ok(FileStorageEngine::new(alloc, Label::of(alloc, "data")?, disk)?)
 }
 
+fn flush_and_close(alloc: Global, disk: &mut MemDisk) -> Result<(), Fail> {
+    let mut log = FileLogStore::new(alloc, disk)?;
+    log.flush(disk)?;
+    log.close(disk)?;
+    Ok(())
+}
+
 #[test]
 fn engine(rt: HostRuntime) -> Result<(), Fail> {
     let alloc = rt.alloc();
@@ -428,8 +480,7 @@ fn engine(rt: HostRuntime) -> Result<(), Fail> {
     assert_eq!(rt; engine.data_dir().as_str(), "data");
     let log = StorageEngine::<MemDisk>::log_store(&mut engine);
     let entries = entries_of(alloc, &[(1, 3), (2, 3)])?;
-    assert!(rt; floor_of(log) == 0 && rise_from(1, entries.as_slice()));
-    assert_eq!(rt; log.persist_entries(&mut disk, entries.as_slice()), Ok(()));
+    persist(&mut disk, log, entries.as_slice())?;
 
     let state = HardState {
         current_term: 3,
@@ -445,8 +496,5 @@ fn engine(rt: HostRuntime) -> Result<(), Fail> {
     assert_eq!(rt; held.as_slice(), entries.as_slice());
     assert_eq!(rt; MetaStore::<MemDisk>::load_hard_state(&meta), Some(state));
     assert_eq!(rt; meta.flush(&mut disk), Ok(()));
-    let mut log = FileLogStore::new(alloc, &mut disk)?;
-    assert_eq!(rt; log.flush(&mut disk), Ok(()));
-    assert_eq!(rt; log.close(&mut disk), Ok(()));
-    Ok(())
+    flush_and_close(alloc, &mut disk)
 }
