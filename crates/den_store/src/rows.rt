@@ -184,6 +184,19 @@ impl Bench {
         Bench::open(self.alloc, self.disk)
     }
 
+    // Opened anew after each tenth turn.
+    fn rested(self, turn: u64) -> Result<Bench, Fail>
+        requires ready { IsLogReady self.store }
+        requires rests { LogRests self.store (⟦<MemDisk as Disk>⟧.content self.disk) }
+        ensures ready { IfOk result (λ b. IsLogReady b.store) }
+        ensures rests { IfOk result (λ b. LogRests b.store (⟦<MemDisk as Disk>⟧.content b.disk)) }
+    {
+        if turn % 10 == 0 {
+            return self.reopened();
+        }
+        Ok(self)
+    }
+
     fn persist(self, pairs: &[(u64, u64)]) -> Result<Bench, Fail>
         requires ready { IsLogReady self.store }
         requires rests { LogRests self.store (⟦<MemDisk as Disk>⟧.content self.disk) }
@@ -450,10 +463,8 @@ fn random_edits(rt: HostRuntime) -> Result<(), Fail> {
         plain.make(&edit)?;
         bench = bench.make(&edit)?;
         assert!(rt; bench.answers(&plain)?, "after edit {turn}, {edit:?}");
-        if turn % 10 == 0 {
-            bench = bench.reopened()?;
-            assert!(rt; bench.answers(&plain)?, "opened after edit {turn}");
-        }
+        bench = bench.rested(turn)?;
+        assert!(rt; bench.answers(&plain)?, "opened after edit {turn}");
     }
     Ok(())
 }
