@@ -8,6 +8,8 @@ mod held_log;
 mod log_store;
 mod meta_store;
 mod replay;
+#[cfg(test)]
+mod rows;
 mod stores;
 
 pub use engine::{FileStorageEngine, StorageEngine};
