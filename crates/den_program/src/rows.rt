@@ -93,13 +93,17 @@ const CUT_REGION: &[u8] = b"\x01\0\0\0\0\0\0\0\x64";
 const STATE_WITH_EXPIRY: &[u8] =
     b"\x01\0\0\0\0\0\0\0\x34\x03\0\0\0\0\0\0\0\x01\0\0\0\0\0\0\0\x01\0\0\0\0\0\0\0\x01\x01\0\0\0\0\0\0\0\x01a\0\0\0\0\0\0\0\x01b\0\0\0\0\0\0\x07\xd0";
 
+// A log of two entries: a put of a = b with a time to live of 1, and a delete of a.
+const LOG_WITH_TTL: &[u8] =
+    b"\x01\0\0\0\0\0\0\0\x5f\x01\0\0\0\0\0\0\0\x02\0\0\0\0\0\0\0\x01\0\0\0\0\0\0\0\x01\0\0\0\0\0\0\x03\xe8\x01\0\0\0\0\0\0\0\x01a\0\0\0\0\0\0\0\x01b\x01\0\0\0\0\0\0\0\x01\0\0\0\0\0\0\0\x02\0\0\0\0\0\0\0\x01\0\0\0\0\0\0\x03\xe8\x02\0\0\0\0\0\0\0\x01a";
+
 // A hard state of the last term, without a vote.
 const LAST_TERM: &[u8] = b"\x01\0\0\0\0\0\0\0\x09\xff\xff\xff\xff\xff\xff\xff\xff\0";
 
 #[test]
 fn refused_files(rt: HostRuntime) -> Result<(), Fail> {
     let alloc = rt.alloc();
-    let cases: [(Family, &[u8], u8, &[u8]); 4] = [
+    let cases: [(Family, &[u8], u8, &[u8]); 5] = [
         (
             Family::Log,
             CUT_REGION,
@@ -115,6 +119,12 @@ fn refused_files(rt: HostRuntime) -> Result<(), Fail> {
         (
             Family::State,
             STATE_WITH_EXPIRY,
+            9,
+            b"den_server: lease is not enabled\n",
+        ),
+        (
+            Family::Log,
+            LOG_WITH_TTL,
             9,
             b"den_server: lease is not enabled\n",
         ),
