@@ -12,6 +12,11 @@ use Rattle.den_model.specs.Log.{Log, above}
 use Rattle.den_model.specs.MapState.{MapState}
 use Rattle.den_model.specs.Step.{Step}
 use Rattle.den_state.specs.Chunk.{asks_lease, has_expiry}
+use Rattle.den_store.specs.declared.log_store.FileLogStore.{FileLogStore}
+use Rattle.den_store.specs.declared.meta_store.FileMetaStore.{FileMetaStore}
+use Rattle.den_store.specs.FileLog.{log_weight}
+use Rattle.den_store.specs.FileMeta.{meta_weight}
+use Rattle.den_state.specs.declared.file_machine.FileStateMachine.{FileStateMachine}
 use Rattle.den_core.specs.Opening.{is_exhausted}
 
 -- whether a key has an expiry, or an entry above the map's mark a time to live
@@ -40,6 +45,10 @@ pub record AllReady (log_ready meta_ready state_ready : Type 0) : Type 0 where
   pub log : log_ready
   pub meta : meta_ready
   pub state : state_ready
+
+-- what the three weigh
+abbrev pub held_weight : FileLogStore → FileMetaStore → FileStateMachine → ℕ
+held_weight log meta state = log_weight log + meta_weight meta + state.gate.end
 
 -- how heavy an engine is, at most, that was opened over files with so many bytes of regions
 abbrev pub opened_weight : ℕ → ℕ

@@ -19,7 +19,7 @@ ghost use Rattle.den_store.specs.FileMeta.{file_state, IsMetaReady, MetaRests};
 ghost use Rattle.den_state.specs.Machine.{IsReady, Rests};
 ghost use Rattle.den_core.specs.Parts.{AllRest};
 ghost use Rattle.den_server.specs.Causes.{IsOpeningRefusal, IsUnreadFolder};
-ghost use Rattle.den_server.specs.Opening.{refusal_in, AllReady, IsRead, IsUnwritten, Settles, SurvivesOpening, opened_weight};
+ghost use Rattle.den_server.specs.Opening.{refusal_in, AllReady, IsRead, IsUnwritten, Settles, SurvivesOpening, held_weight, opened_weight};
 
 use crate::nodes::copy_nodes;
 use den_codec::{Error, Label, RaftNodeConfig, Running, Setting};
@@ -86,7 +86,7 @@ fn open_stores<D: Disk>(alloc: Global, disk: &mut D, data_dir: Label) -> Result<
         (D.content disk.new ≡ D.content disk.old) (D.content disk.old).reading }
     ensures read { IfOk result (λ s. IsTrue (D.kind disk.old).tells → IsRead (D.content disk.old).reading (file_log s.log) (file_state s.meta) s.state.map) }
     ensures place { IfOk result (λ s. IsTrue (D.kind disk.old).tells → file_place s.log ≡ place_number (slot_of log_family (D.content disk.old).reading)) }
-    ensures weight { IfOk result (λ s. IsTrue (D.kind disk.old).tells → s.log.gate.end + s.meta.gate.end + s.state.gate.end ≤ 768 + 4 * files_size (D.content disk.old).reading) }
+    ensures weight { IfOk result (λ s. IsTrue (D.kind disk.old).tells → held_weight s.log s.meta s.state ≤ 768 + 4 * files_size (D.content disk.old).reading) }
     ensures entries { IfOk result (λ s. IsTrue (D.kind disk.old).tells → entries_size (file_log s.log).entries ≤ files_size (D.content disk.old).reading) }
     ensures ready { IfOk result (λ s. AllReady (IsLogReady s.log) (IsMetaReady s.meta) (IsReady s.state)) }
     ensures rests { IfOk result (λ s. IsTrue (D.kind disk.old).tells → AllRest (LogRests s.log (D.content disk.new)) (MetaRests s.meta (D.content disk.new)) (Rests s.state (D.content disk.new))) }

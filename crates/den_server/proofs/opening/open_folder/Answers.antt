@@ -13,7 +13,7 @@ use Rattle.den_disk.specs.Families.{NoNewImages}
 use Rattle.den_codec.specs.Full.{IsHeavy}
 use Rattle.den_model.specs.Log.{above}
 use Rattle.den_model.specs.Sizes.{entries_size, files_size, store_rise}
-use Rattle.den_server.specs.Opening.{refusal_in, opened_weight, IsUnwritten}
+use Rattle.den_server.specs.Opening.{refusal_in, held_weight, opened_weight, IsUnwritten}
 use Rattle.den_server.proofs.Ended.{rose_then, some_same, kv_is}
 use Rattle.den_server.proofs.Refused.{read_refusal, read_durable, folder_refused, folder_light, failure_refused, some_refused, heavier, if_err_weaker, if_ok_weaker, if_ok_two, if_ok_on, above_size}
 use Rattle.den_server.proofs.Settled.{spares_read, no_call, never_settles, settled_survives}
@@ -65,16 +65,16 @@ returns-clause-kv g c = if_ok_two c.recover.result _ _ _
     c.recover.ensures.opened c.recover.ensures.running
 
 -- what the stores weighed, and the entries that were applied
-lighter : (log meta state entries more bytes : ℕ) → log + meta + state ≤ 768 + 4 * bytes → entries ≤ bytes → more ≤ entries → log + meta + state + store_rise more ≤ opened_weight bytes
-lighter log meta state entries more bytes stores all some = omega (arith, stores, all, some)
+lighter : (held entries more bytes : ℕ) → held ≤ 768 + 4 * bytes → entries ≤ bytes → more ≤ entries → held + store_rise more ≤ opened_weight bytes
+lighter held entries more bytes stores all some = omega (arith, stores, all, some)
 
 pub returns-clause-weight : goal.returns-clause-weight
 returns-clause-weight g c = if_ok_weaker c.recover.result _ _
     (λ engine weight told.
     let stores = c.in-Ok-open_stores.stores in
     let more = entries_size (above stores.state.map.mark.index (file_log stores.log).entries) in
-    let got : engine.log.gate.end + engine.meta.gate.end + engine.state.gate.end ≤ stores.log.gate.end + stores.meta.gate.end + stores.state.gate.end + store_rise more = weight in
-    let most = lighter stores.log.gate.end stores.meta.gate.end stores.state.gate.end (entries_size (file_log stores.log).entries) more (files_size (g.D.Disk.content c.args.disk.now).reading)
+    let got : held_weight engine.log engine.meta engine.state ≤ held_weight stores.log stores.meta stores.state + store_rise more = weight in
+    let most = lighter (held_weight stores.log stores.meta stores.state) (entries_size (file_log stores.log).entries) more (files_size (g.D.Disk.content c.args.disk.now).reading)
     (c.in-Ok-open_stores.ensures.weight told) (c.in-Ok-open_stores.ensures.entries told) (above_size stores.state.map.mark.index (file_log stores.log).entries) in
     le_trans got most)
     c.recover.ensures.weight
@@ -84,10 +84,10 @@ returns-clause-heavy g c = λ told. if_err_weaker c.recover.result _ _
     (λ e heavy.
     let stores = c.in-Ok-open_stores.stores in
     let more = entries_size (above stores.state.map.mark.index (file_log stores.log).entries) in
-    heavier (g.D.Disk.kind c.args.disk.now).limit (stores.log.gate.end + stores.meta.gate.end + stores.state.gate.end + store_rise more) _ e
-    (lighter stores.log.gate.end stores.meta.gate.end stores.state.gate.end (entries_size (file_log stores.log).entries) more (files_size (g.D.Disk.content c.args.disk.now).reading)
+    heavier (g.D.Disk.kind c.args.disk.now).limit (held_weight stores.log stores.meta stores.state + store_rise more) _ e
+    (lighter (held_weight stores.log stores.meta stores.state) (entries_size (file_log stores.log).entries) more (files_size (g.D.Disk.content c.args.disk.now).reading)
     (c.in-Ok-open_stores.ensures.weight told) (c.in-Ok-open_stores.ensures.entries told) (above_size stores.state.map.mark.index (file_log stores.log).entries))
-    (subst (λ (k : Kind). IsHeavy k.limit (stores.log.gate.end + stores.meta.gate.end + stores.state.gate.end + store_rise more) e) c.open_stores.ensures.disk.same heavy))
+    (subst (λ (k : Kind). IsHeavy k.limit (held_weight stores.log stores.meta stores.state + store_rise more) e) c.open_stores.ensures.disk.same heavy))
     c.recover.ensures.heavy
 
 -- ---- why files are refused

@@ -7,7 +7,7 @@ use Rattle.den_model.specs.Sizes.{family_size, files_size}
 use Rattle.den_store.specs.FileLog.{file_log}
 use Rattle.den_store.specs.FileMeta.{file_state}
 use Rattle.den_server.specs.declared.opening.Stores.{Stores}
-use Rattle.den_server.specs.Opening.{IsRead}
+use Rattle.den_server.specs.Opening.{IsRead, held_weight}
 use Rattle.den_server.proofs.Ended.{rose_then}
 use Rattle.den_server.proofs.Refused.{storage_unread, state_unread, unread_refused, state_refused}
 use Rattle.den_server.proofs.Settled.{same_reading, settled_or_same, never_settles, settles_now, settles_on}
@@ -60,7 +60,7 @@ returns-in-Ok-new-clause-weight g c = λ told.
     let told1 : IsTrue (D.kind c.new.new.disk).tells = subst (λ (k : Kind). IsTrue k.tells) (sym c.new.ensures.disk.same) told in
     let one : c1.reading ≡ c0.reading = same_reading c0 c1 (c.new.ensures.spares told) in
     let state : family_size family.State c1.reading ≡ family_size family.State c0.reading = ap (family_size family.State) one in
-    subst (λ (s : Stores). s.log.gate.end + s.meta.gate.end + s.state.gate.end ≤ 768 + 4 * files_size c0.reading) (sym c.stores_of.ensures)
+    subst (λ (s : Stores). held_weight s.log s.meta s.state ≤ 768 + 4 * files_size c0.reading) (sym c.stores_of.ensures)
     (omega (arith, c.in-Ok.ensures.log_weight told, c.in-Ok.ensures.meta_weight told, c.in-Ok-new.ensures.weight told1, state))
 
 -- ---- from which moment on a crash leaves what was read

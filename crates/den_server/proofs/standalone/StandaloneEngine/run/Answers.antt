@@ -16,7 +16,7 @@ use Rattle.den_core.specs.Refusals.{IsServeRefusal}
 use Rattle.den_core.specs.Weights.{run_weight}
 use Rattle.den_store.specs.FileMeta.{file_state}
 use Rattle.den_server.specs.Causes.{IsRunRefusal}
-use Rattle.den_server.specs.Opening.{refusal_in, SurvivesOpening}
+use Rattle.den_server.specs.Opening.{refusal_in, held_weight, SurvivesOpening}
 use Rattle.den_server.proofs.Ended.{rose_then, opening_ended, serving_ended, away, refused_not_read, full_serving, full_opening, completed}
 use Rattle.den_server.proofs.Refused.{if_err_weaker}
 use Rattle.den_server.proofs.Surviving.{reading_image, of_node, opening_then, no_reading, all_along, opening_front, served_from}
@@ -146,7 +146,7 @@ returns-clause-full g c = λ told. if_err_weaker c.run_from.result _ _
     let D = g.D.Disk in
     let L = g.L.Link in
     let engine = c.in-Ok.engine in
-    let weight = engine.log.gate.end + engine.meta.gate.end + engine.state.gate.end in
+    let weight = held_weight engine.log engine.meta engine.state in
     let taken = L.taken c.run_from.new.link - L.taken c.args.link.now in
     full_serving (D.kind c.args.disk.now).limit weight (files_size (D.content c.args.disk.now).reading) taken e (c.in-Ok.ensures.weight told)
     (subst (λ (k : Kind). IsHeavy k.limit (run_weight weight taken) e) c.open_folder.ensures.disk.same h))
