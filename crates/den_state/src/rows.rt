@@ -1,5 +1,5 @@
 //! Worked rows: swaps, refusals, a cleanup, and random chunks beside a plain list of pairs.
-ghost use Rattle.std.specs.Prelude.{◌≡◌, ◌≤◌, [], IfSome, IfOk, OnOk};
+ghost use Rattle.std.specs.Prelude.{◌≡◌, [], IfSome, IfOk, OnOk};
 ghost use Rattle.den_state.specs.Machine.{IsReady, Keeps, Rests};
 
 use crate::{FileStateMachine, StateMachine};
@@ -14,6 +14,8 @@ const CONFIG: LeaseConfig = LeaseConfig {
     cleanup_interval_ms: 1000,
     max_cleanup_duration_ms: 0,
 };
+
+const FIRST_KEY: u8 = b'a';
 
 // What an entry does, where keys and values are single bytes.
 #[derive(Clone, Copy, Debug)]
@@ -100,7 +102,7 @@ impl Bench {
         })
     }
 
-    // Opened without a lease after a crash.
+    // Opened anew after a crash, with a lease where it had one.
     fn crashed(self, choice: u64) -> Result<Bench, Fail>
         ensures ready { IfOk result (λ b. IsReady b.machine) }
         ensures rests { IfOk result (λ b. Rests b.machine (⟦<MemDisk as Disk>⟧.content b.disk)) }
@@ -108,10 +110,10 @@ impl Bench {
         let Bench {
             alloc,
             mut disk,
-            ..
+            machine,
         } = self;
         disk.crash(choice);
-        Bench::open(alloc, disk, false)
+        Bench::open(alloc, disk, machine.leased)
     }
 
     // A crash after each tenth turn.
@@ -194,8 +196,6 @@ impl Bench {
         self.len() == plain.pairs.len() && self.last_applied() == last
     }
 }
-
-const FIRST_KEY: u8 = b'a';
 
 // A map as pairs of a key and a value, written anew and plainly.
 #[derive(Drop)]
@@ -290,7 +290,8 @@ impl Draws {
         match self.next() % 8 {
             0 => Write::Noop,
             1..3 => Write::Delete(self.key()),
-            3..5 => Write::Insert(self.key(), self.value()),
+            3 => Write::Insert(self.key(), self.value()),
+            4 => Write::Expiring(self.key(), self.value(), 1),
             _ => Write::Swap(self.key(), self.expected(), self.value()),
         }
     }
@@ -348,7 +349,6 @@ fn refuses_a_repeated_index(rt: HostRuntime) -> Result<(), Fail> {
 }
 
 #[test]
-#[tactic(auto)]
 fn records_a_cleanup(rt: HostRuntime) -> Result<(), Fail> {
     let alloc = rt.alloc();
     let mut bench = Bench::open(alloc, MemDisk::new(alloc), true)?;
@@ -366,7 +366,7 @@ fn records_a_cleanup(rt: HostRuntime) -> Result<(), Fail> {
 #[test]
 fn random_chunks(rt: HostRuntime) -> Result<(), Fail> {
     let alloc = rt.alloc();
-    let mut bench = Bench::open(alloc, MemDisk::new(alloc), false)?;
+    let mut bench = Bench::open(alloc, MemDisk::new(alloc), true)?;
     let mut plain = Plain {
         pairs: Vec::new(alloc),
         last: 0,
