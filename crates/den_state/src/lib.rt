@@ -9,6 +9,8 @@ mod holding;
 mod machine;
 mod map;
 mod marks;
+#[cfg(test)]
+mod rows;
 
 pub use file_machine::{FileStateMachine, SnapshotMetadata};
 pub use machine::StateMachine;
