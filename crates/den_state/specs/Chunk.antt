@@ -34,7 +34,8 @@ IsChunkRefusal leased rose most mark chunk StorageIoError = (out_of_order mark c
 IsChunkRefusal leased rose most mark chunk (DiskFull needed limit) = (out_of_order mark chunk ≡ None) × (lacks_lease leased chunk ≡ false) × (limit < needed) × (limit ≡ most)
 IsChunkRefusal leased rose most mark chunk _ = ⊥
 
--- what a refusal leaves: all as it was, or a state machine of no more use; want of memory either
+-- what a refusal leaves: all as it was, or a state machine of no more use; want of memory either, as it comes before
+-- the first write or after it
 abbrev pub LeavesOrEnds : (untouched ended : Type 0) → Error → Type 0
 LeavesOrEnds untouched ended (UnorderedChunk index) = untouched
 LeavesOrEnds untouched ended FeatureNotEnabled = untouched
@@ -42,3 +43,10 @@ LeavesOrEnds untouched ended OutOfMemory = untouched ⊎ ended
 LeavesOrEnds untouched ended StorageIoError = ended
 LeavesOrEnds untouched ended (DiskFull needed limit) = ended
 LeavesOrEnds untouched ended _ = Unit {0}
+
+-- the same of a call that takes memory before its first write alone
+abbrev pub Leaves : (untouched ended : Type 0) → Error → Type 0
+Leaves untouched ended OutOfMemory = untouched
+Leaves untouched ended StorageIoError = ended
+Leaves untouched ended (DiskFull needed limit) = ended
+Leaves untouched ended _ = Unit {0}

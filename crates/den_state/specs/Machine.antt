@@ -60,12 +60,13 @@ pub record IsSetAs (running : Bool) (metadata : Option SnapshotMetadata) (new_ru
   pub runs : new_running ≡ running
   pub says : new_metadata ≡ metadata
 
--- map, marks, lease, weight and files are as they were
-pub record StaysAs {S : Type 0} (map : S → MapState) (stored : S → LogId) (leased : S → Bool) (weight : S → ℕ) (ready : S → Type 0) (keeps : S → Content → Type 0) (old new : S) : Type 0 where
+-- map, marks, lease, weight, length and files are as they were
+pub record StaysAs {S : Type 0} (map : S → MapState) (stored : S → LogId) (leased : S → Bool) (weight : S → ℕ) (short : S → Type 0) (ready : S → Type 0) (keeps : S → Content → Type 0) (old new : S) : Type 0 where
   pub map_same : map new ≡ map old
   pub stored_same : stored new ≡ stored old
   pub lease_same : leased new ≡ leased old
   pub weight_same : weight new ≡ weight old
+  pub stays_short : short old → short new
   pub stays_ready : ready old → ready new
   pub stays_kept : (content : Content) → keeps old content → keeps new content
 

@@ -1,5 +1,5 @@
 //! What a state machine is.
-ghost use Rattle.std.specs.Prelude.{◌≡◌, ◌==◌, ◌≤◌, ◌↔◌, ◌+◌, ◌&&◌, ℕ, Bool, true, false, max, length, IsTrue, Option, Some, None, OnOk, IfOk, IfErr, option_map};
+ghost use Rattle.std.specs.Prelude.{◌≡◌, ◌==◌, ◌≤◌, ◌↔◌, ◌+◌, ◌&&◌, ℕ, Bool, true, false, [], max, length, IsTrue, Option, Some, None, OnOk, IfOk, IfErr, option_map};
 ghost use Rattle.den_disk.specs.declared.place.Family.TheVariants.{State as state_family};
 ghost use Rattle.den_disk.specs.Files.{Files, Content, IsImage};
 ghost use Rattle.den_disk.specs.Goes.{Rose, DiskGoesOn};
@@ -19,7 +19,7 @@ ghost use Rattle.den_state.specs.declared.file_machine.SnapshotMetadata.{Snapsho
 ghost use Rattle.den_state.specs.Cleanup.{cleaned_where, removed_where};
 ghost use Rattle.den_state.specs.Scan.{keys_in};
 ghost use Rattle.den_state.specs.Machine.{IsWriteRefusal, IsSetAs, StaysAs};
-ghost use Rattle.den_state.specs.Chunk.{out_of_order, lacks_lease, has_expiry, IsChunkRefusal, LeavesOrEnds};
+ghost use Rattle.den_state.specs.Chunk.{out_of_order, lacks_lease, has_expiry, IsChunkRefusal, Leaves, LeavesOrEnds};
 
 use crate::SnapshotMetadata;
 use den_codec::{ApplyResult, Blob, Entry, Error, LogId, Rows, ScanResult};
@@ -58,24 +58,32 @@ pub trait StateMachine<D: Disk>: Drop {
     /// only where four times the weight is above the limit of a file.
     ghost weight: { Self → ℕ };
 
+    /// Its files ask for no checkpoint: few records follow the last one.
+    ghost short: { Self → Type 0 };
+
     /// Applies entries in order, each swap seeing the writes before it, and answers whether each succeeded. A chunk out
     /// of order, or with a time to live where no lease is configured, is refused with nothing changed; a fault of the
-    /// disk or a full one ends its use. A crash inside leaves the old map or the new one.
+    /// disk or a full one ends its use. A chunk without entries changes nothing. A crash inside leaves the old map with
+    /// the old stored mark, or the new map.
     fn apply_chunk(&mut self, disk: &mut D, chunk: &[Entry]) -> Result<Rows<ApplyResult>, Error>
         requires ready { ready self.old }
-        requires rests { IsTrue (D.kind disk.old).tells → rests self.old (D.content disk.old) }
+        requires keeps { IsTrue (D.kind disk.old).tells → keeps self.old (D.content disk.old) }
         ensures disk { DiskGoesOn D.kind D.moment D.images D.faults disk.old disk.new }
-        ensures own { IsTrue (D.kind disk.old).tells → OldOrNew holds (D.images disk.new) (D.moment disk.old) (D.moment disk.new) (map self.old) (map_applied_all (map self.old) chunk.now) }
+        ensures own { IsTrue (D.kind disk.old).tells → OldOrNew holds (D.images disk.new) (D.moment disk.old) (D.moment disk.new)
+            (record (map self.old) { mark = stored self.old }) (map_applied_all (map self.old) chunk.now) }
         ensures others { IsTrue (D.kind disk.old).tells → SparesImages state_family (D.images disk.old) (D.images disk.new) (D.moment disk.old) (D.moment disk.new) }
         ensures spares { IsTrue (D.kind disk.old).tells → SparesOthers state_family (D.content disk.old) (D.content disk.new) }
         ensures applied { OnOk result (map self.new ≡ map_applied_all (map self.old) chunk.now) }
         ensures results { IfOk result (λ results. results ≡ results_of (map self.old) chunk.now) }
         ensures in_order { OnOk result ((out_of_order (map self.old).mark.index chunk.now ≡ None) × (lacks_lease (leased self.old) chunk.now ≡ false)) }
+        ensures nothing { chunk.now ≡ [] → (self.new ≡ self.old) × (disk.new ≡ disk.old) }
+        ensures stored { OnOk result (1 ≤ length chunk.now → stored self.new ≡ (map self.new).mark) }
         ensures lease { leased self.new ≡ leased self.old }
         ensures set { IsSetAs (running self.old) (said self.old) (running self.new) (said self.new) }
         ensures weight { OnOk result (weight self.new ≤ weight self.old + store_rise (entries_size chunk.now)) }
         ensures ready { OnOk result (ready self.new) }
-        ensures rests { OnOk result (IsTrue (D.kind disk.old).tells → rests self.new (D.content disk.new)) }
+        ensures keeps { OnOk result (IsTrue (D.kind disk.old).tells → keeps self.new (D.content disk.new)) }
+        ensures rests { OnOk result (1 ≤ length chunk.now → IsTrue (D.kind disk.old).tells → rests self.new (D.content disk.new)) }
         ensures refused { IfErr result (λ e. IsChunkRefusal (leased self.old) (Rose (D.faults disk.old) (D.faults disk.new)) (D.kind disk.old).limit (map self.old).mark.index chunk.now e) }
         ensures heavy { IfErr result (IsHeavy (D.kind disk.old).limit (weight self.old + store_rise (entries_size chunk.now))) }
         ensures failed { IfErr result (LeavesOrEnds ((self.new ≡ self.old) × (disk.new ≡ disk.old)) (ready self.new → ⊥)) };
@@ -88,6 +96,7 @@ pub trait StateMachine<D: Disk>: Drop {
         ensures lease { leased self.new ≡ leased self.old }
         ensures set { IsSetAs (running self.old) (said self.old) (running self.new) (said self.new) }
         ensures weight { weight self.new ≡ weight self.old }
+        ensures short { short self.old → short self.new }
         ensures ready { ready self.old → ready self.new }
         ensures keeps { (content : Content) → keeps self.old content → keeps self.new content };
 
@@ -103,14 +112,16 @@ pub trait StateMachine<D: Disk>: Drop {
         ensures others { IsTrue (D.kind disk.old).tells → SparesImages state_family (D.images disk.old) (D.images disk.new) (D.moment disk.old) (D.moment disk.new) }
         ensures spares { IsTrue (D.kind disk.old).tells → SparesOthers state_family (D.content disk.old) (D.content disk.new) }
         ensures map { OnOk result (map self.new ≡ record (map self.old) { mark = last_applied }) }
+        ensures stored { OnOk result (stored self.new ≡ last_applied) }
         ensures lease { leased self.new ≡ leased self.old }
         ensures set { IsSetAs (running self.old) (said self.old) (running self.new) (said self.new) }
         ensures weight { OnOk result (weight self.new ≤ weight self.old + store_rise 0) }
+        ensures short { short self.old → short self.new }
         ensures ready { OnOk result (ready self.new) }
         ensures rests { OnOk result (IsTrue (D.kind disk.old).tells → rests self.new (D.content disk.new)) }
         ensures refused { IfErr result (IsWriteRefusal (Unit {0}) (Rose (D.faults disk.old) (D.faults disk.new)) (D.kind disk.old).limit) }
         ensures heavy { IfErr result (IsHeavy (D.kind disk.old).limit (weight self.old + store_rise 0)) }
-        ensures failed { IfErr result (LeavesOrEnds ((self.new ≡ self.old) × (disk.new ≡ disk.old)) (ready self.new → ⊥)) };
+        ensures failed { IfErr result (Leaves ((self.new ≡ self.old) × (disk.new ≡ disk.old)) (ready self.new → ⊥)) };
 
     /// Stores the applied mark.
     fn save_hard_state(&mut self, disk: &mut D) -> Result<(), Error>
@@ -122,14 +133,16 @@ pub trait StateMachine<D: Disk>: Drop {
         ensures others { IsTrue (D.kind disk.old).tells → SparesImages state_family (D.images disk.old) (D.images disk.new) (D.moment disk.old) (D.moment disk.new) }
         ensures spares { IsTrue (D.kind disk.old).tells → SparesOthers state_family (D.content disk.old) (D.content disk.new) }
         ensures map { OnOk result (map self.new ≡ map self.old) }
+        ensures stored { OnOk result (stored self.new ≡ (map self.old).mark) }
         ensures lease { leased self.new ≡ leased self.old }
         ensures set { IsSetAs (running self.old) (said self.old) (running self.new) (said self.new) }
         ensures weight { OnOk result (weight self.new ≤ weight self.old + store_rise 0) }
+        ensures short { short self.old → short self.new }
         ensures ready { OnOk result (ready self.new) }
         ensures rests { OnOk result (IsTrue (D.kind disk.old).tells → rests self.new (D.content disk.new)) }
         ensures refused { IfErr result (IsWriteRefusal (Unit {0}) (Rose (D.faults disk.old) (D.faults disk.new)) (D.kind disk.old).limit) }
         ensures heavy { IfErr result (IsHeavy (D.kind disk.old).limit (weight self.old + store_rise 0)) }
-        ensures failed { IfErr result (LeavesOrEnds ((self.new ≡ self.old) × (disk.new ≡ disk.old)) (ready self.new → ⊥)) };
+        ensures failed { IfErr result (Leaves ((self.new ≡ self.old) × (disk.new ≡ disk.old)) (ready self.new → ⊥)) };
 
     /// Stores the applied mark, and lets the state machine go.
     fn close(self, disk: &mut D) -> Result<(), Error>
@@ -166,7 +179,7 @@ pub trait StateMachine<D: Disk>: Drop {
         ensures keeps { OnOk result (IsTrue (D.kind disk.old).tells → keeps self.new (D.content disk.new)) }
         ensures refused { IfErr result (IsWriteRefusal (Unit {0}) (Rose (D.faults disk.old) (D.faults disk.new)) (D.kind disk.old).limit) }
         ensures heavy { IfErr result (IsHeavy (D.kind disk.old).limit (weight self.old + store_rise 0)) }
-        ensures failed { IfErr result (LeavesOrEnds ((self.new ≡ self.old) × (disk.new ≡ disk.old)) (ready self.new → ⊥)) };
+        ensures failed { IfErr result (Leaves ((self.new ≡ self.old) × (disk.new ≡ disk.old)) (ready self.new → ⊥)) };
 
     /// Whether a refusal left it of no more use. It is opened anew then.
     fn is_failed(&self) -> bool
@@ -184,14 +197,17 @@ pub trait StateMachine<D: Disk>: Drop {
     fn get(&self, key: &[u8]) -> Option<&Blob>
         ensures { option_map (λ b. b.now) result ≡ value_at (part_of (map self.now) 0) key.now };
 
+    /// Marks it as running, in memory.
     fn start(&mut self)
         ensures set { IsSetAs true (said self.old) (running self.new) (said self.new) }
-        ensures same { StaysAs map stored leased weight ready keeps self.old self.new };
+        ensures same { StaysAs map stored leased weight short ready keeps self.old self.new };
 
+    /// Marks it as stopped, in memory. Its other calls are as before.
     fn stop(&mut self)
         ensures set { IsSetAs false (said self.old) (running self.new) (said self.new) }
-        ensures same { StaysAs map stored leased weight ready keeps self.old self.new };
+        ensures same { StaysAs map stored leased weight short ready keeps self.old self.new };
 
+    /// Whether it was started last, and not stopped.
     fn is_running(&self) -> bool
         ensures { result ≡ running self.now };
 
@@ -202,12 +218,12 @@ pub trait StateMachine<D: Disk>: Drop {
     /// Says something of a snapshot, in memory.
     fn update_last_snapshot_metadata(&mut self, metadata: SnapshotMetadata)
         ensures set { IsSetAs (running self.old) (Some metadata) (running self.new) (said self.new) }
-        ensures same { StaysAs map stored leased weight ready keeps self.old self.new };
+        ensures same { StaysAs map stored leased weight short ready keeps self.old self.new };
 
     /// The same: nothing of it is written.
     fn persist_last_snapshot_metadata(&mut self, metadata: SnapshotMetadata)
         ensures set { IsSetAs (running self.old) (Some metadata) (running self.new) (said self.new) }
-        ensures same { StaysAs map stored leased weight ready keeps self.old self.new };
+        ensures same { StaysAs map stored leased weight short ready keeps self.old self.new };
 
     /// How many pairs the map has.
     fn len(&self) -> usize
@@ -247,5 +263,8 @@ pub trait StateMachine<D: Disk>: Drop {
     ghost rests_keep: { (s : Self) (c : Content) → rests s c → keeps s c × (stored s ≡ (map s).mark) };
 
     /// The stored mark is not above the applied one, which may have moved on since.
+    ghost keeps_below: { (s : Self) (c : Content) → keeps s c → (stored s).index ≤ (map s).mark.index };
+
+    /// Where they are the same, its files give its map.
     ghost keeps_rest: { (s : Self) (c : Content) → keeps s c → stored s ≡ (map s).mark → rests s c };
 }
