@@ -10,6 +10,8 @@ use crate::Place;
 #[derive(Clone, Copy, Debug, PartialEq, Eq)]
 pub struct DiskFault;
 
+/// Twelve files that are read, written, cut and synced, and what a crash at each moment may leave of them. Each call that
+/// fails is counted.
 pub trait Disk {
     /// Whether it tells its bytes, and how long a file may be.
     ghost kind: { Self → Kind };

@@ -33,6 +33,7 @@ fn listed(readings: &[u64], number: u64) -> u64
     readings[(number as usize).min(readings.len() - 1)]
 }
 
+/// A clock that gives the readings that it was made of.
 #[derive(Drop)]
 pub struct ListClock {
     readings: Readings,

@@ -6,6 +6,7 @@ use crate::faults::{count_fault, room_before};
 use crate::{Disk, Link, LinkFault, Piece};
 use std::alloc::Global;
 
+/// A link in memory: an input that is read in given pieces, and a list of what was sent.
 #[derive(Drop)]
 pub struct MemLink {
     input: Vec<u8>,

@@ -5,6 +5,7 @@ use crate::faults::{count_fault, room_before};
 use crate::{Sink, SinkFault};
 use std::alloc::Global;
 
+/// A sink in memory, which keeps what was written.
 #[derive(Drop)]
 pub struct MemSink {
     written: Vec<u8>,

@@ -4,6 +4,7 @@ ghost use Rattle.std.specs.Prelude.{◌≡◌, ◌≤◌, true, length, drop};
 use crate::faults::{count_fault, room_before};
 use crate::{Piece, Source, SourceFault};
 
+/// A source in memory, which gives the bytes that it was made of.
 #[derive(Drop)]
 pub struct MemSource {
     bytes: Vec<u8>,

@@ -31,6 +31,7 @@ pub enum Step {
     Sync,
 }
 
+/// A disk in memory, which tells what a crash at each past moment would have left. Calls can be made to fail.
 #[derive(Drop)]
 pub struct MemDisk {
     alloc: Global,

@@ -7,7 +7,8 @@ mod serving;
 mod status;
 mod words;
 
-use den_disk::{FolderDisk, HostClock, ListClock, MemDisk, MemLink, MemSource, StdLink, StdSink};
+use den_disk::{ListClock, MemDisk, MemLink, MemSource};
+use den_host::{FolderDisk, HostClock, StdLink, StdSink};
 use serving::serve_main;
 use std::alloc::Global;
 use std::process::ExitCode;
@@ -28,7 +29,11 @@ fn main(rt: HostRuntime) -> ExitCode {
     let alloc = rt.alloc();
     let words = match words_after_name(&rt, alloc) {
         Ok(words) => words,
-        Err(_) => return ExitCode::from(1),
+        Err(error) => match error.kind() {
+            io::ErrorKind::OutOfMemory => return ExitCode::from(1),
+            // A word that is no text names no folder.
+            _ => Vec::new(alloc),
+        },
     };
     let mut conf = MemSource::new(Vec::new(alloc));
     let mut errs = StdSink::new(rt.stderr());

@@ -2,7 +2,7 @@
 ghost use Rattle.std.specs.Prelude.{◌≡◌, ◌/◌, ◌^◌, ◌-◌, min, false, []};
 ghost use Rattle.std.specs.Time.{system_time_nanos};
 
-use crate::Clock;
+use den_disk::Clock;
 use std::time;
 use std::time::{SystemTime, UNIX_EPOCH};
 

@@ -2,7 +2,7 @@
 ghost use Rattle.std.specs.Prelude.{◌≡◌, false, []};
 
 use crate::system_call::counted;
-use crate::{Sink, SinkFault};
+use den_disk::{Sink, SinkFault};
 use std::io::Write;
 
 /// What is written goes to the runtime's standard error at once.

@@ -4,7 +4,7 @@ ghost use Rattle.std.proofs.lemmas.Bool.{false≢true};
 
 use crate::place_file::{PlaceFile, Twelve};
 use crate::system_call::counted;
-use crate::{Disk, DiskFault, Place};
+use den_disk::{Disk, DiskFault, Place};
 use std::fs::OpenFile;
 use std::io::ErrorKind;
 use std::os::unix::fs::FileExt;
@@ -20,6 +20,7 @@ const LIMIT: u64 = 1 << 62;
 #[derive(Drop)]
 pub struct FolderDisk<R: Files> {
     folder: Folder<R>,
+    moment: u64,
     faults: u64,
 }
 
@@ -34,6 +35,7 @@ impl<R: Files> FolderDisk<R> {
                 is_synced: false,
                 files: Twelve::new(),
             },
+            moment: 0,
             faults: 0,
         }
     }
@@ -47,7 +49,7 @@ where
 
     ghost content = { λ _. record { reading = λ _. []; pending = [] } };
 
-    ghost moment = { λ _. 0 };
+    ghost moment = { λ disk. disk.moment };
 
     ghost images = { λ _ _ _. Unit {0} };
 
@@ -70,17 +72,25 @@ where
     fn write_at(&mut self, place: Place, at: u64, bytes: &[u8]) -> Result<(), DiskFault> {
         counted(
             &mut self.faults,
-            self.folder.write_at(place, at, bytes),
+            moved(&mut self.moment, self.folder.write_at(place, at, bytes)),
             DiskFault,
         )
     }
 
     fn resize(&mut self, place: Place, len: u64) -> Result<(), DiskFault> {
-        counted(&mut self.faults, self.folder.resize(place, len), DiskFault)
+        counted(
+            &mut self.faults,
+            moved(&mut self.moment, self.folder.resize(place, len)),
+            DiskFault,
+        )
     }
 
     fn sync(&mut self) -> Result<(), DiskFault> {
-        counted(&mut self.faults, self.folder.sync(), DiskFault)
+        counted(
+            &mut self.faults,
+            moved(&mut self.moment, self.folder.sync()),
+            DiskFault,
+        )
     }
 
     fn limit(&self) -> u64 {
@@ -88,8 +98,16 @@ where
     }
 
     fn moment(&self) -> u64 {
-        0
+        self.moment
     }
+}
+
+// Moves the moment on where a call changed the disk. At its last value it stays.
+fn moved(moment: &mut u64, call: io::Result<()>) -> io::Result<()> {
+    if call.is_ok() {
+        *moment = moment.saturating_add(1);
+    }
+    call
 }
 
 // The folder and its open files. A call answers the error of the operating system.
@@ -207,7 +225,7 @@ fn sync_folder<R: Files>(rt: &R, folder: Path<'_>) -> io::Result<()> {
 #[cfg(test)]
 mod tests {
     use super::*;
-    use crate::{Family, Part};
+    use den_disk::{Family, Part};
     use std::test::Fail;
 
     const PLACE: Place = Place {
@@ -233,6 +251,7 @@ mod tests {
         assert_eq!(rt; again.faults, 0);
         assert_eq!(rt; again.read_at(PLACE, 1, &mut bytes), Err(DiskFault));
         assert_eq!(rt; again.faults, 1);
+        assert_eq!(rt; (disk.moment(), again.moment()), (3, 0));
         fs::remove_dir_all(&rt, "kept")?;
         Ok(())
     }

@@ -2,7 +2,7 @@
 ghost use Rattle.std.specs.Prelude.{◌≡◌, ◌≤◌, false, [], IfOk, length};
 
 use crate::system_call::{counted, read_once};
-use crate::{Piece, Source, SourceFault};
+use den_disk::{Piece, Source, SourceFault};
 use std::rt::Files;
 use std::{fs, io};
 

@@ -1,7 +1,7 @@
 // The open files of a folder, and which of them were written since they were last synced.
 ghost use Rattle.std.specs.Prelude.{◌≡◌, OnOk, OnErr, IsErr};
 
-use crate::{Family, Part, Place};
+use den_disk::{Family, Part, Place};
 use std::alloc::Global;
 use std::fs::{OpenFile, OpenOptions};
 use std::io;

@@ -2,7 +2,7 @@
 ghost use Rattle.std.specs.Prelude.{◌≡◌, ◌≤◌, ◌^◌, false, [], IfOk, length};
 
 use crate::system_call::{counted, read_once};
-use crate::{Disk, Link, LinkFault, Piece};
+use den_disk::{Disk, Link, LinkFault, Piece};
 use std::io;
 use std::io::{BufReader, ErrorKind, Input};
 
@@ -83,7 +83,7 @@ fn read_input<R: Input + Alloc>(
 #[cfg(test)]
 mod tests {
     use super::*;
-    use crate::MemDisk;
+    use den_disk::MemDisk;
     use std::alloc::{Allocator, Global};
     use std::fmt::Display;
     use std::io::Lines;
