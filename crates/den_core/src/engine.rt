@@ -17,6 +17,7 @@ ghost use Rattle.den_core.specs.Parts.{durable_of, kv_of, raised_of, vote_of, Is
 ghost use Rattle.den_core.specs.Spared.{SparesFamily};
 ghost use Rattle.den_core.specs.Weights.{commit_rise, frame_rise, raise_rise};
 
+use crate::applying::apply_at_rest;
 use crate::ask::{Asked, answered, ask};
 use crate::{StepOut, Stepper};
 use den_codec::{
@@ -169,7 +170,7 @@ fn commit<D: Disk, G: LogStore<D>, T: MetaStore<D>, M: StateMachine<D>>(
     let term = current_term::<D, T>(&engine.meta);
     let chunk = [Entry::of(index, term, moment, command)];
     engine.log.persist_entries(disk, &chunk)?;
-    let results = engine.state.apply_chunk(disk, &chunk)?;
+    let results = apply_at_rest(&mut engine.state, disk, &chunk)?;
     Ok(results.as_slice()[0].succeeded)
 }
 

@@ -1,6 +1,7 @@
 //! The engine over log, hard state and map, and the loop that serves frames.
 #![tactic(auto)]
 
+mod applying;
 mod ask;
 mod engine;
 mod frame;

@@ -18,6 +18,7 @@ ghost use Rattle.den_core.specs.Opening.{agrees, opening_refusal, refusal_by, Is
 ghost use Rattle.den_core.specs.Parts.{kv_of, IsPlain, AllRest};
 ghost use Rattle.den_core.specs.Spared.{SparesFamily};
 
+use crate::applying::apply_at_rest;
 use crate::ask::has_ttl;
 use crate::engine::current_term;
 use crate::{Engine, Stepper};
@@ -158,7 +159,7 @@ fn apply_all<D: Disk, M: StateMachine<D>>(
     if entries.is_empty() {
         return Ok(());
     }
-    state.apply_chunk(disk, entries)?;
+    apply_at_rest(state, disk, entries)?;
     Ok(())
 }
 

@@ -17,6 +17,7 @@ use Rattle.den_store.specs.declared.meta_store.FileMetaStore.{FileMetaStore}
 use Rattle.den_store.specs.FileLog.{log_weight}
 use Rattle.den_store.specs.FileMeta.{meta_weight}
 use Rattle.den_state.specs.declared.file_machine.FileStateMachine.{FileStateMachine}
+use Rattle.den_state.specs.Machine.{state_weight}
 use Rattle.den_core.specs.Opening.{is_exhausted}
 
 -- whether a key has an expiry, or an entry above the map's mark a time to live
@@ -48,7 +49,7 @@ pub record AllReady (log_ready meta_ready state_ready : Type 0) : Type 0 where
 
 -- what the three weigh
 abbrev pub held_weight : FileLogStore → FileMetaStore → FileStateMachine → ℕ
-held_weight log meta state = log_weight log + meta_weight meta + state.gate.end
+held_weight log meta state = log_weight log + meta_weight meta + state_weight state
 
 -- how heavy an engine is, at most, that was opened over files with so many bytes of regions
 abbrev pub opened_weight : ℕ → ℕ

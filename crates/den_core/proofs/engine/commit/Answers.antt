@@ -36,8 +36,8 @@ returns-in_err-persist_entries-clause-moves g c = λ told.
     (λ files rest at. g.met.M.StateMachine.rests_hold engine.state (D.content disk) files c.requires.ready.state rest at) (c.requires.rests told).state) (persist.others told)))
 
 -- the map's files lie as before behind the append
-pub apply_chunk-requires-clause-rests : goal.apply_chunk-requires-clause-rests
-apply_chunk-requires-clause-rests g c = λ then.
+pub apply_at_rest-requires-clause-rests : goal.apply_at_rest-requires-clause-rests
+apply_at_rest-requires-clause-rests g c = λ then.
     let persist = c.in_ok-persist_entries.ensures in
     let told : IsTrue (g.D.Disk.kind c.args.disk.now).tells = subst (λ k. IsTrue k.tells) persist.disk.same then in
     let engine = c.args.engine.now in
@@ -50,7 +50,7 @@ returns-in_err-results-clause-moves g c = λ told.
     let disk = c.args.disk.now in
     let between = c.persist_entries.new.disk in
     let persist = c.in_ok-persist_entries.ensures in
-    let apply = c.apply_chunk.ensures in
+    let apply = c.apply_at_rest.ensures in
     let then : IsTrue (D.kind between).tells = subst (λ k. IsTrue k.tells) (sym persist.disk.same) told in
     let l = g.G.LogStore.log engine.log in
     let h = g.T.MetaStore.hard_state engine.meta in
@@ -59,7 +59,7 @@ returns-in_err-results-clause-moves g c = λ told.
     let next = ap (λ e. e.index) is in
     let caught = c.requires.ready.caught_up in
     let meta_rests = g.met.T.MetaStore.rests_own engine.meta _ _ (apart_own _ _ _ _ meta_log (persist.spares told)) (c.requires.rests told).meta in
-    subst (λ e. OldOrNew (λ files. joined (g.G.LogStore.holds files) (g.T.MetaStore.holds files) (g.M.StateMachine.holds files)) (D.images c.apply_chunk.new.disk) (D.moment disk) (D.moment c.apply_chunk.new.disk) (durable_of h s) (applied (durable_of h s) e)) is
+    subst (λ e. OldOrNew (λ files. joined (g.G.LogStore.holds files) (g.T.MetaStore.holds files) (g.M.StateMachine.holds files)) (D.images c.apply_at_rest.new.disk) (D.moment disk) (D.moment c.apply_at_rest.new.disk) (durable_of h s) (applied (durable_of h s) e)) is
     (moves_then _ _ _ _ (D.moment between) _ _ _ (apply.disk.told then).past
     (log_moves g.G.LogStore.holds g.T.MetaStore.holds g.M.StateMachine.holds _ _ _ _ _ _ _ _ _
     (durable_is l h s caught) (logged_is l s c.of.result caught next h)
@@ -87,7 +87,7 @@ returns-clause-moves g c = λ told.
     let disk = c.args.disk.now in
     let between = c.persist_entries.new.disk in
     let persist = c.in_ok-persist_entries.ensures in
-    let apply = c.apply_chunk.ensures in
+    let apply = c.apply_at_rest.ensures in
     let then : IsTrue (D.kind between).tells = subst (λ k. IsTrue k.tells) (sym persist.disk.same) told in
     let l = g.G.LogStore.log engine.log in
     let h = g.T.MetaStore.hard_state engine.meta in
@@ -96,7 +96,7 @@ returns-clause-moves g c = λ told.
     let next = ap (λ e. e.index) is in
     let caught = c.requires.ready.caught_up in
     let meta_rests = g.met.T.MetaStore.rests_own engine.meta _ _ (apart_own _ _ _ _ meta_log (persist.spares told)) (c.requires.rests told).meta in
-    subst (λ e. OldOrNew (λ files. joined (g.G.LogStore.holds files) (g.T.MetaStore.holds files) (g.M.StateMachine.holds files)) (D.images c.apply_chunk.new.disk) (D.moment disk) (D.moment c.apply_chunk.new.disk) (durable_of h s) (applied (durable_of h s) e)) is
+    subst (λ e. OldOrNew (λ files. joined (g.G.LogStore.holds files) (g.T.MetaStore.holds files) (g.M.StateMachine.holds files)) (D.images c.apply_at_rest.new.disk) (D.moment disk) (D.moment c.apply_at_rest.new.disk) (durable_of h s) (applied (durable_of h s) e)) is
     (moves_then _ _ _ _ (D.moment between) _ _ _ (apply.disk.told then).past
     (log_moves g.G.LogStore.holds g.T.MetaStore.holds g.M.StateMachine.holds _ _ _ _ _ _ _ _ _
     (durable_is l h s caught) (logged_is l s c.of.result caught next h)
@@ -162,14 +162,14 @@ pub returns-in_err-persist_entries-clause-snapshot : goal.returns-in_err-persist
 returns-in_err-persist_entries-clause-snapshot g c = λ told. spares_by _ _ _ _ _ _ _ snapshot_log (c.persist_entries.ensures.spares told) (c.persist_entries.ensures.others told)
 
 pub returns-in_err-results-clause-snapshot : goal.returns-in_err-results-clause-snapshot
-returns-in_err-results-clause-snapshot g c = spares_twice _ _ _ _ _ _ _ _ _ c.persist_entries.ensures.disk c.apply_chunk.ensures.disk
+returns-in_err-results-clause-snapshot g c = spares_twice _ _ _ _ _ _ _ _ _ c.persist_entries.ensures.disk c.apply_at_rest.ensures.disk
     (λ told. spares_by _ _ _ _ _ _ _ snapshot_log (c.persist_entries.ensures.spares told) (c.persist_entries.ensures.others told))
-    (λ told. spares_by _ _ _ _ _ _ _ snapshot_state (c.apply_chunk.ensures.spares told) (c.apply_chunk.ensures.others told))
+    (λ told. spares_by _ _ _ _ _ _ _ snapshot_state (c.apply_at_rest.ensures.spares told) (c.apply_at_rest.ensures.others told))
 
 pub returns-clause-snapshot : goal.returns-clause-snapshot
-returns-clause-snapshot g c = spares_twice _ _ _ _ _ _ _ _ _ c.persist_entries.ensures.disk c.apply_chunk.ensures.disk
+returns-clause-snapshot g c = spares_twice _ _ _ _ _ _ _ _ _ c.persist_entries.ensures.disk c.apply_at_rest.ensures.disk
     (λ told. spares_by _ _ _ _ _ _ _ snapshot_log (c.persist_entries.ensures.spares told) (c.persist_entries.ensures.others told))
-    (λ told. spares_by _ _ _ _ _ _ _ snapshot_state (c.apply_chunk.ensures.spares told) (c.apply_chunk.ensures.others told))
+    (λ told. spares_by _ _ _ _ _ _ _ snapshot_state (c.apply_at_rest.ensures.spares told) (c.apply_at_rest.ensures.others told))
 
 -- the entry that was made is in the log
 pub returns-clause-logged : goal.returns-clause-logged

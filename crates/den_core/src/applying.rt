@@ -1,0 +1,37 @@
+//! A chunk on a state machine whose files give its map.
+ghost use Rattle.std.specs.Prelude.{◌≡◌, ◌+◌, ◌≤◌, IsTrue, OnOk, IfOk, IfErr, length};
+ghost use Rattle.den_codec.specs.Full.{IsHeavy};
+ghost use Rattle.den_disk.specs.declared.place.Family.TheVariants.{State as state_family};
+ghost use Rattle.den_disk.specs.Families.{OldOrNew, SparesImages, SparesOthers};
+ghost use Rattle.den_disk.specs.Goes.{Rose, DiskGoesOn};
+ghost use Rattle.den_model.specs.MapState.{map_applied_all, results_of};
+ghost use Rattle.den_model.specs.Sizes.{entries_size, store_rise};
+ghost use Rattle.den_state.specs.Chunk.{IsChunkRefusal};
+
+use den_codec::{ApplyResult, Entry, Error, Rows};
+use den_disk::Disk;
+use den_state::StateMachine;
+
+/// Applies entries. A crash inside leaves the old map or the new one, and the files give the new one then.
+pub(crate) fn apply_at_rest<D: Disk, M: StateMachine<D>>(
+    state: &mut M,
+    disk: &mut D,
+    chunk: &[Entry],
+) -> Result<Rows<ApplyResult>, Error>
+    requires ready { M.ready state.old }
+    requires rests { IsTrue (D.kind disk.old).tells → M.rests state.old (D.content disk.old) }
+    requires some { 1 ≤ length chunk.now }
+    ensures disk { DiskGoesOn D.kind D.moment D.images D.faults disk.old disk.new }
+    ensures own { IsTrue (D.kind disk.old).tells → OldOrNew M.holds (D.images disk.new) (D.moment disk.old) (D.moment disk.new) (M.map state.old) (map_applied_all (M.map state.old) chunk.now) }
+    ensures others { IsTrue (D.kind disk.old).tells → SparesImages state_family (D.images disk.old) (D.images disk.new) (D.moment disk.old) (D.moment disk.new) }
+    ensures spares { IsTrue (D.kind disk.old).tells → SparesOthers state_family (D.content disk.old) (D.content disk.new) }
+    ensures applied { OnOk result (M.map state.new ≡ map_applied_all (M.map state.old) chunk.now) }
+    ensures results { IfOk result (λ results. results ≡ results_of (M.map state.old) chunk.now) }
+    ensures ready { OnOk result (M.ready state.new) }
+    ensures rests { OnOk result (IsTrue (D.kind disk.old).tells → M.rests state.new (D.content disk.new)) }
+    ensures weight { OnOk result (M.weight state.new ≤ M.weight state.old + store_rise (entries_size chunk.now)) }
+    ensures refused { IfErr result (λ e. IsChunkRefusal (M.leased state.old) (Rose (D.faults disk.old) (D.faults disk.new)) (D.kind disk.old).limit (M.map state.old).mark.index chunk.now e) }
+    ensures heavy { IfErr result (IsHeavy (D.kind disk.old).limit (M.weight state.old + store_rise (entries_size chunk.now))) }
+{
+    state.apply_chunk(disk, chunk)
+}
