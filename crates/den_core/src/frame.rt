@@ -139,6 +139,8 @@ pub struct FrameReader {
 }
 
 impl FrameReader {
+    /// A reader at the beginning of a link's input. A frame whose body is longer than the limit, in bytes, is read past
+    /// and is bad.
     pub fn new(alloc: Global, limit: u32) -> FrameReader
         ensures { result.limit ≡ limit }
     {

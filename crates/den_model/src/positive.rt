@@ -25,6 +25,7 @@ impl Model for Positive {
 }
 
 impl Positive {
+    /// The number, which is at least 1.
     pub fn of(number: u64) -> Positive
         requires { 1 ≤ number }
         ensures { result ≡ number }
@@ -42,6 +43,7 @@ impl Positive {
         Some(Positive { number })
     }
 
+    /// The number.
     pub fn get(&self) -> u64
         ensures is { result ≡ self.now }
         ensures positive { 1 ≤ self.now }
