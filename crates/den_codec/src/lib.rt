@@ -29,7 +29,6 @@ pub use den_model::{
 pub use error::{ConfigPlace, Error};
 pub use frames::write_frame;
 pub use reads::ReadError;
-pub use region_words::write_append;
 pub use request_words::read_request;
 pub use state_words::write_records;
 pub use word::{Word, list_size, put_list, take_list};

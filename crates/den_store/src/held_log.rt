@@ -1,15 +1,14 @@
 // A log in memory: a boundary, and the entries above it in the order of their indices.
 ghost use Rattle.std.specs.Prelude.{◌≡◌, ◌+◌, ◌≤◌, true, length, take, drop, filter, nat_le, vec_len, vec_capacity, OnOk, IfOk};
-ghost use Rattle.den_model.specs.Entries.{rise_above, rise_from, begin_from};
+ghost use Rattle.den_model.specs.Entries.{rise_above, begin_from};
 ghost use Rattle.den_model.specs.Log.{empty_log, floor, below, above, between, replaced, changed, is_lawful, last_index};
 ghost use Rattle.den_model.specs.Words.{FitsLogRegion};
-ghost use Rattle.den_model.specs.Spelling.{log_region_word};
-ghost use Rattle.den_model.specs.declared.region.LogRegion.TheVariants.{Append, Truncate, Purge, Reset};
+ghost use Rattle.den_model.specs.declared.region.LogRegion.TheVariants.{Truncate, Purge, Reset};
 ghost use Rattle.den_store.specs.Lookup.{entry_at, entries_of};
 ghost use Rattle.den_store.specs.Order.{IsInOrder};
 
 use crate::copies::copied;
-use den_codec::{Entry, LogId, LogRegion, Rows, write_append};
+use den_codec::{Entry, LogId, LogRegion, Rows};
 use std::alloc::{AllocError, Global};
 
 #[derive(Drop)]
@@ -17,13 +16,6 @@ pub(crate) struct HeldLog {
     boundary: Option<LogId>,
     entries: Vec<Entry>,
     ghost order: { IsInOrder (record { boundary = boundary; entries = entries.items }) },
-}
-
-// What an append needs.
-#[derive(Drop)]
-pub(crate) struct Prepared {
-    pub(crate) copies: Vec<Entry>,
-    pub(crate) word: Vec<u8>,
 }
 
 impl HeldLog {
@@ -77,33 +69,11 @@ impl HeldLog {
     }
 
     // Makes room for so many entries more.
-    pub(crate) fn reserve(&mut self, count: usize) -> Result<(), AllocError>
+    fn reserve(&mut self, count: usize) -> Result<(), AllocError>
         ensures log { log_of self.new ≡ log_of self.old }
         ensures room { OnOk result (vec_len self.new.entries + count ≤ vec_capacity self.new.entries) }
     {
         self.entries.reserve(count)
-    }
-
-    // Takes all the memory that an append of these entries takes: room for them, copies of them, and the word of the
-    // region that appends them.
-    pub(crate) fn prepare(
-        &mut self,
-        alloc: Global,
-        entries: &[Entry],
-    ) -> Result<Prepared, AllocError>
-        requires some { 1 ≤ length entries.now }
-        requires rise { rise_from 1 entries.now ≡ true }
-        ensures log { log_of self.new ≡ log_of self.old }
-        ensures copies { IfOk result (λ p. p.copies.items ≡ entries.now) }
-        ensures word { IfOk result (λ p. p.word.items ≡ log_region_word (Append entries.now)) }
-        ensures fits { OnOk result (FitsLogRegion (Append entries.now)) }
-        ensures room { IfOk result (λ p. vec_len self.new.entries + vec_len p.copies ≤ vec_capacity self.new.entries) }
-    {
-        let copies = copied(alloc, entries)?;
-        let mut word = Vec::new(alloc);
-        write_append(entries, &mut word)?;
-        self.reserve(copies.len())?;
-        Ok(Prepared { copies, word })
     }
 
     // The held entry of an index.
@@ -138,7 +108,7 @@ impl HeldLog {
     }
 
     // The entries from an index on give way to these. Takes no memory.
-    pub(crate) fn replace(&mut self, from: u64, mut entries: Vec<Entry>)
+    fn replace(&mut self, from: u64, mut entries: Vec<Entry>)
         requires rise { rise_above (floor (log_of self.old)) entries.items ≡ true }
         requires begin { begin_from from entries.items ≡ true }
         requires room { vec_len self.old.entries + vec_len entries ≤ vec_capacity self.old.entries }

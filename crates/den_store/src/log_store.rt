@@ -23,7 +23,7 @@ use crate::replay::replay_log;
 use den_codec::{Entry, Error, LogId, LogRegion, Rows, Word};
 use den_disk::{Disk, Family};
 use den_gate::GateFile;
-use den_model::{Positive, Replacement};
+use den_model::{NewEntries, Positive, Replacement};
 use std::alloc::Global;
 
 /// A log in memory, and in a file of the changes that made it.
@@ -115,17 +115,13 @@ impl<D: Disk> LogStore<D> for FileLogStore {
     ghost rests_hold = { λ s c files ready rests image. log_rests_hold s c files rests image };
 
     fn persist_entries(&mut self, disk: &mut D, entries: &[Entry]) -> Result<(), Error> {
-        let Some(first) = entries.first() else {
+        if entries.is_empty() {
             return Ok(());
-        };
-        let from = first.index();
-        let prepared = self.held.prepare(self.alloc, entries)?;
-        match self.gate.append(disk, prepared.word.as_slice()) {
-            Ok(()) => {
-                self.held.replace(from, prepared.copies);
-                Ok(())
-            }
-            Err(error) => Err(refusal(Family::Log, error)),
+        }
+        let copies = copied(self.alloc, entries)?;
+        match NewEntries::of(Rows::of(copies)) {
+            Some(entries) => self.change(disk, LogRegion::Append { entries }),
+            None => unreachable!(),
         }
     }
 
