@@ -1,7 +1,7 @@
 -- What the changes of a log in memory make of the log.
 use Rattle.std.proofs.Common.{◌≡◌, ℕ, suc, ◌+◌, ◌-◌, ◌<◌, ◌≤◌, inl, inr, Bool, true, false, List, [], ◌∷◌, ◌++◌, length, get_or, Option, Some, None, refl, sym, ap, ◌∙◌, subst, arith}
 use Rattle.std.specs.List.{AllByRecursion}
-use Rattle.std.specs.Prelude.{nat_lt, nat_le, ◌||◌, not, is_none, is_some, IfSome, if◌then◌else◌}
+use Rattle.std.specs.Prelude.{nat_lt, nat_le, ◌==◌, ◌||◌, ◌&&◌, not, is_none, is_some, IfSome, if◌then◌else◌}
 use Rattle.std.proofs.lemmas.Bool.{ltb-true, ltb-false, lt-ltb, le-ltb, le-leb, lt-leb, leb-true, and_from, and_parts, or_cases, cond-true, cond-false, cases_Bool}
 use Rattle.den_model.specs.declared.log_id.LogId.{LogId}
 use Rattle.den_model.specs.declared.region.LogRegion.TheVariants.{Append, Purge, Replace}
@@ -124,3 +124,11 @@ append_is l (e ∷ es) first from some is at = ap (λ (i : ℕ). replaced l i (e
 pub append_none : (l : Log) (es : List LogEntry) → length es ≤ 0 → l ≡ changed l (Append es)
 append_none l [] none = refl
 append_none l (e ∷ es) none = absurd (omega arith)
+
+-- entries that rise are as an append wants them
+pub append_made : (es : List LogEntry) → 0 < length es → rise_from 1 es ≡ true → (if nat_le 1 (length es) && rise_from 1 es then Some es else None) ≡ Some es
+append_made es some rise = ap (λ b. if b then Some es else None) (and_from (nat_le 1 (length es)) (rise_from 1 es) (le-leb 1 (length es) some) rise)
+
+pub some_there : (es : List LogEntry) → (length es == 0) ≡ false → 0 < length es
+some_there [] none = absurd (cc none)
+some_there (e ∷ es) none = omega arith

@@ -19,5 +19,5 @@ returns-clause-own g c = λ told.
     let state = c.args.state.now in
     let disk = c.args.disk.now in
     let is = marked_so (M.map state) (M.stored state) (g.met.M.StateMachine.rests_keep state (D.content disk) (c.requires.rests told)).1 in
-    subst (λ m. OldOrNew M.holds (D.images c.apply_chunk.new.disk) (D.moment disk) (D.moment c.apply_chunk.new.disk) m (map_applied_all (M.map state) c.args.chunk)) is
+    subst (λ m. OldOrNew M.holds (D.images c.apply_chunk.new.disk) (D.moment disk) (D.moment c.apply_chunk.new.disk) m (map_applied_all (M.map state) c.args.chunk.now)) is
     (c.apply_chunk.ensures.own told)
