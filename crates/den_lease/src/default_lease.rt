@@ -19,6 +19,7 @@ pub struct DefaultLease {
     map: ByteMap<Positive>,
     used: bool,
     config: LeaseConfig,
+    ghost unused: { used ≡ false → length map ≡ 0 },
 }
 
 impl DefaultLease {

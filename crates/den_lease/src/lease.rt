@@ -1,5 +1,5 @@
 //! What a lease is.
-ghost use Rattle.std.specs.Prelude.{◌≡◌, ◌≤◌, ◌||◌, ◌==◌, nat_lt, ℕ, Bool, true, List, [], length, max, Some, OnOk, IfOk, IfErr};
+ghost use Rattle.std.specs.Prelude.{◌≡◌, ◌≤◌, ◌||◌, ◌==◌, nat_lt, ℕ, Bool, true, false, List, [], length, max, Some, OnOk, IfOk, IfErr};
 ghost use Rattle.den_codec.specs.declared.error.Error.TheVariants.{OutOfMemory};
 ghost use Rattle.den_model.specs.Apply.{is_expired, kept_expiries, seconds_after};
 ghost use Rattle.den_model.specs.Table.{Table, by_bytes, set, unset};
@@ -65,9 +65,10 @@ pub trait Lease: Drop {
         ensures keys { result ≡ [] }
         ensures same { self.new ≡ self.old };
 
-    /// Whether a key was ever registered or loaded, also if it is gone.
+    /// Whether a key was ever registered or loaded, also if it is gone. Where none was, no key has an expiry.
     fn has_lease_keys(&self) -> bool
-        ensures { result ≡ used self.now };
+        ensures is { result ≡ used self.now }
+        ensures none { used self.now ≡ false → table self.now ≡ [] };
 
     /// Whether some key is expired at the moment.
     fn may_have_expired_keys(&self, now: u64) -> bool
