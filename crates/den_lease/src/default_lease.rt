@@ -1,20 +1,25 @@
 //! A lease in memory.
-ghost use Rattle.std.specs.Prelude.{◌≡◌, ◌||◌, ℕ, List, [], true, false, length, nat_lt, Option, Some, None, unwrap_or, OnOk, IfOk, IfErr};
+ghost use Rattle.std.specs.Prelude.{◌≡◌, ◌≤◌, ◌||◌, ℕ, List, [], true, false, length, max, nat_lt, Option, Some, None, unwrap_or, OnOk, IfOk, IfErr};
+ghost use Rattle.std.specs.List.Sorted.{IsStrictlySortedBy};
 ghost use Rattle.den_codec.specs.declared.error.Error.TheVariants.{OutOfMemory};
-ghost use Rattle.den_model.specs.Table.{at};
+ghost use Rattle.den_model.specs.Apply.{kept_expiries, seconds_after};
+ghost use Rattle.den_model.specs.Table.{at, by_bytes, set, unset};
+ghost use Rattle.den_lease.specs.Due.{due_keys};
+ghost use Rattle.den_lease.specs.Refusals.{IsReloadRefusal};
 ghost use Rattle.den_lease.specs.Words.{snapshot_in};
 
 use crate::{ByteMap, Lease, LeaseSnapshot};
 use den_codec::{Blob, Error, LeaseConfig, Positive, Rows, Word};
 use std::alloc::Global;
 
-/// Keys and their expiries in memory, with the configuration of leases.
+/// Keys and their expiries in memory, with the configuration of leases, which no call changes.
 #[derive(Drop)]
 pub struct DefaultLease {
     alloc: Global,
     map: ByteMap<Positive>,
     used: bool,
     config: LeaseConfig,
+    ghost unused: { used ≡ false → length map ≡ 0 },
 }
 
 impl DefaultLease {
@@ -32,7 +37,8 @@ impl DefaultLease {
         }
     }
 
-    /// The lease of a snapshot's word, and one without a key where the bytes are no word.
+    /// The lease of a snapshot's word, and one without a key where the bytes are no word. It is refused for want of
+    /// memory alone.
     pub fn from_snapshot(
         alloc: Global,
         bytes: &[u8],
@@ -56,13 +62,14 @@ impl DefaultLease {
         })
     }
 
+    /// The configuration that the lease was made with.
     pub fn config(&self) -> &LeaseConfig
         ensures { result.now ≡ self.now.config }
     {
         &self.config
     }
 
-    /// The moment at which the key expires, if it does.
+    /// The moment in milliseconds at which the key expires, if it does.
     pub fn get_expiration(&self, key: &[u8]) -> Option<u64>
         ensures { result ≡ at self.now.map key.now }
     {
@@ -86,19 +93,34 @@ impl Lease for DefaultLease {
         self.map.len() == 0
     }
 
-    fn register(&mut self, key: Blob, ttl_secs: u64, now: u64) -> Result<(), Error> {
+    fn register(&mut self, key: Blob, ttl_secs: u64, now: u64) -> Result<(), Error>
+        ensures table { OnOk result (self.new.map ≡ set self.old.map key (seconds_after (max now 1) ttl_secs)) }
+        ensures used { OnOk result (self.new.used ≡ true) }
+        ensures config { self.new.config ≡ self.old.config }
+        ensures refused { IfErr result (λ e. (e ≡ OutOfMemory) × (self.new ≡ self.old)) }
+    {
         let expiry = now.max(1).saturating_add(ttl_secs.saturating_mul(1000));
         self.register_at(key, expiry)
     }
 
-    fn register_at(&mut self, key: Blob, expiry: u64) -> Result<(), Error> {
+    fn register_at(&mut self, key: Blob, expiry: u64) -> Result<(), Error>
+        requires expiry { 1 ≤ expiry }
+        ensures table { OnOk result (self.new.map ≡ set self.old.map key expiry) }
+        ensures used { OnOk result (self.new.used ≡ true) }
+        ensures config { self.new.config ≡ self.old.config }
+        ensures refused { IfErr result (λ e. (e ≡ OutOfMemory) × (self.new ≡ self.old)) }
+    {
         self.map
             .insert(self.alloc, key.as_slice(), Positive::of(expiry))?;
         self.used = true;
         Ok(())
     }
 
-    fn unregister(&mut self, key: &[u8]) {
+    fn unregister(&mut self, key: &[u8])
+        ensures table { self.new.map ≡ unset self.old.map key.now }
+        ensures used { self.new.used ≡ self.old.used }
+        ensures config { self.new.config ≡ self.old.config }
+    {
         self.map.remove(key);
     }
 
@@ -106,7 +128,14 @@ impl Lease for DefaultLease {
         self.map.is_expired(key, now)
     }
 
-    fn get_expired_keys(&mut self, now: u64) -> Result<Rows<Blob>, Error> {
+    fn get_expired_keys(&mut self, now: u64) -> Result<Rows<Blob>, Error>
+        ensures keys { IfOk result (λ keys. keys ≡ due_keys now self.old.map) }
+        ensures sorted { IfOk result (λ keys. IsStrictlySortedBy by_bytes keys) }
+        ensures table { OnOk result (self.new.map ≡ kept_expiries now self.old.map) }
+        ensures used { self.new.used ≡ self.old.used }
+        ensures config { self.new.config ≡ self.old.config }
+        ensures refused { IfErr result (λ e. (e ≡ OutOfMemory) × (self.new ≡ self.old)) }
+    {
         let keys = self.map.due_keys(self.alloc, now)?;
         self.map.drop_until(now);
         Ok(keys)
@@ -132,7 +161,12 @@ impl Lease for DefaultLease {
     }
 
     #[tactic(auto, unfolding(crate::specs::Words::snapshot_in))]
-    fn reload(&mut self, bytes: &[u8]) -> Result<(), Error> {
+    fn reload(&mut self, bytes: &[u8]) -> Result<(), Error>
+        ensures table { OnOk result (snapshot_in bytes.now ≡ Some self.new.map) }
+        ensures used { OnOk result (self.new.used ≡ (self.old.used || nat_lt 0 (length self.new.map))) }
+        ensures config { self.new.config ≡ self.old.config }
+        ensures refused { IfErr result (λ e. IsReloadRefusal (snapshot_in bytes.now) e × (self.new ≡ self.old)) }
+    {
         let Some(snapshot) = LeaseSnapshot::read(self.alloc, bytes)? else {
             return Err(Error::StateMachineError);
         };

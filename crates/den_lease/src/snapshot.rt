@@ -1,19 +1,14 @@
 //! Leases as bytes.
 #![tactic(auto, using(den_codec::proofs::Growing::grows_then))]
 
-ghost use Rattle.std.specs.Prelude.{◌≡◌, ◌-◌, ◌^◌, ◌++◌, ℕ, List, true, length, min, OnOk, refl, if◌then◌else◌, Option, Some, None};
-ghost use Rattle.den_model.specs.Table.{Table};
-ghost use Rattle.den_model.specs.Words.{IsWordBy, FitsList};
-ghost use Rattle.den_model.specs.Spelling.{list_word};
-ghost use Rattle.den_model.specs.Reading.{list_at, items_at};
+ghost use Rattle.std.specs.Prelude.{◌≡◌, ℕ, List, true, refl, if◌then◌else◌, Option, Some, None};
+ghost use Rattle.den_model.specs.Words.{IsWordBy};
 ghost use Rattle.den_model.proofs.Spells.{word_found, word_read};
-ghost use Rattle.den_codec.specs.Gives.{Gives};
-ghost use Rattle.den_codec.specs.Grows.{Grows};
 ghost use Rattle.den_lease.specs.Rising.{rises, rises_above};
 ghost use Rattle.den_lease.specs.Words.{lease_word, snapshot_word, lease_at, snapshot_at, FitsLease, FitsSnapshot};
 ghost use Rattle.den_lease.specs.Laws.{spells_lease, spells_snapshot};
 
-use den_codec::{ReadError, Word};
+use den_codec::{ReadError, Word, list_size, put_list, take_list};
 use den_model::{Blob, Positive, Rows};
 use std::alloc::{AllocError, Global};
 use std::marker::Model;
@@ -22,6 +17,7 @@ use std::marker::Model;
 #[derive(Debug, Drop, PartialEq, Eq)]
 pub struct LeaseRow {
     pub key: Blob,
+    /// In milliseconds.
     pub expiry: Positive,
 }
 
@@ -38,7 +34,7 @@ impl Model for LeaseRow {
     ghost inverse = { λ p. record { key = p.0; expiry = p.1 } };
 }
 
-/// Leases in the order of their keys, no key twice.
+/// Leases in the order of their keys, no key twice: what a snapshot's word is read as and written from.
 #[derive(Debug, Drop)]
 pub struct LeaseSnapshot {
     rows: Rows<LeaseRow>,
@@ -81,6 +77,7 @@ fn rises_above(key: &Blob, rows: &[LeaseRow]) -> bool
 }
 
 impl LeaseSnapshot {
+    /// The leases, whose keys rise.
     pub fn of(rows: Rows<LeaseRow>) -> LeaseSnapshot
         requires { rises rows ≡ true }
         ensures { result ≡ rows }
@@ -88,7 +85,7 @@ impl LeaseSnapshot {
         LeaseSnapshot { rows }
     }
 
-    /// The leases, where their keys rise.
+    /// The leases where their keys rise, and nothing where they do not.
     pub fn new(rows: Rows<LeaseRow>) -> Option<LeaseSnapshot>
         ensures { result ≡ (if rises rows then Some rows else None) }
     {
@@ -98,6 +95,7 @@ impl LeaseSnapshot {
         Some(LeaseSnapshot { rows })
     }
 
+    /// The leases, to be read one after the other.
     pub fn as_slice(&self) -> &[LeaseRow]
         ensures is { result.now ≡ self.now }
         ensures rise { rises self.now ≡ true }
@@ -140,51 +138,6 @@ impl Word for LeaseRow {
     fn size(&self) -> u64 {
         (self.key.as_slice().len() as u64).saturating_add(16)
     }
-}
-
-// The leases of so many words, one after the other.
-fn take_rows(alloc: Global, count: u64, bytes: &[u8]) -> Result<(Rows<LeaseRow>, &[u8]), ReadError>
-    ensures { Gives (λ x. (x.0, x.1.now)) result (items_at lease_at count bytes.now) }
-{
-    let mut rows = Vec::new(alloc);
-    let mut rest = bytes;
-    for _ in 0..count {
-        let (row, after) = LeaseRow::take(alloc, rest)?;
-        rows.push(row)?;
-        rest = after;
-    }
-    Ok((Rows::of(rows), rest))
-}
-
-#[tactic(auto, unfolding(den_model::specs::Reading::list_at))]
-fn take_list(alloc: Global, bytes: &[u8]) -> Result<(Rows<LeaseRow>, &[u8]), ReadError>
-    ensures { Gives (λ x. (x.0, x.1.now)) result (list_at lease_at bytes.now) }
-{
-    let (count, rest) = u64::take(alloc, bytes)?;
-    take_rows(alloc, count, rest)
-}
-
-fn put_list(out: &mut Vec<u8>, rows: &[LeaseRow]) -> Result<(), AllocError>
-    ensures ok { OnOk result (out.new.items ≡ out.old.items ++ list_word lease_word rows.now) }
-    ensures fits { OnOk result (FitsList FitsLease rows.now) }
-    ensures grows { Grows out.old.items out.new.items }
-{
-    (rows.len() as u64).put(out)?;
-    for row in rows {
-        row.put(out)?;
-    }
-    Ok(())
-}
-
-// The length of a list's word, at most 2 ^ 64 - 1.
-fn list_size(rows: &[LeaseRow]) -> u64
-    ensures { result ≡ min (length (list_word lease_word rows.now)) (2 ^ 64 - 1) }
-{
-    let mut size: u64 = 8;
-    for row in rows {
-        size = size.saturating_add(row.size());
-    }
-    size
 }
 
 impl Word for LeaseSnapshot {
