@@ -100,6 +100,11 @@ OnUntouched P (error.UnorderedChunk index) = P
 OnUntouched P error.FeatureNotEnabled = P
 OnUntouched P _ = Unit {0}
 
+-- a fact of want of memory
+abbrev pub OnWant : Type 0 → Error → Type 0
+OnWant P error.OutOfMemory = P
+OnWant P _ = Unit {0}
+
 -- what may refuse an opening: want of memory, a fault of the disk, and files that give no map
 abbrev pub IsOpeningRefusal : Type 0 → Bool → Files → Error → Type 0
 IsOpeningRefusal rose tells files error.OutOfMemory = Unit {0}

@@ -1,5 +1,5 @@
 //! The state machine in files.
-ghost use Rattle.std.specs.Prelude.{◌≡◌, ◌≤◌, ◌<◌, ◌↔◌, ◌+◌, ◌-◌, ◌*◌, ◌^◌, min, ◌∷◌, ◌++◌, ℕ, List, [], true, false, None, Some, Ok, Err, IsTrue, IfSome, is_some, IfOk, IfErr, OnOk, OnErr, length};
+ghost use Rattle.std.specs.Prelude.{◌≡◌, ◌≤◌, ◌<◌, ◌↔◌, ◌+◌, ◌-◌, ◌*◌, ◌⊎◌, ◌^◌, min, ◌∷◌, ◌++◌, ℕ, List, [], true, false, None, Some, Ok, Err, IsTrue, IfSome, is_some, IfOk, IfErr, OnOk, OnErr, length};
 ghost use Rattle.den_disk.specs.declared.place.Family.TheVariants.{State as state_family};
 ghost use Rattle.den_disk.specs.Goes.{Rose, DiskGoesOn};
 ghost use Rattle.den_disk.specs.Families.{SparesAll, SparesOthers, SparesImages, NoNewImages, OldOrNew};
@@ -12,7 +12,7 @@ ghost use Rattle.den_codec.specs.Full.{IsHeavy};
 ghost use Rattle.den_gate.specs.Gate.{payloads, IsAtRest, IsCurrent};
 ghost use Rattle.den_state.specs.Chunk.{out_of_order, lacks_lease, IsChunkRefusal, LeavesOrEnds};
 ghost use Rattle.den_state.specs.Journal.{all_recorded};
-ghost use Rattle.den_state.specs.Machine.{HasShortTail, IsReady, Lies, Keeps, Rests, IsConfiguredAs, IsSetAs, IsDurable, IsOpeningRefusal, IsWriteRefusal, OnUntouched, journaled, map_held, stored_map, state_error, state_weight};
+ghost use Rattle.den_state.specs.Machine.{HasShortTail, IsReady, Lies, Keeps, Rests, IsConfiguredAs, IsSetAs, IsDurable, IsOpeningRefusal, IsWriteRefusal, OnUntouched, OnWant, journaled, map_held, stored_map, state_error, state_weight};
 ghost use Rattle.den_state.specs.Laws.{rests_spared, keeps_spared, keeps_rested, keeps_settled, held_own, lies_image, rests_image};
 
 use crate::StateMachine;
@@ -196,9 +196,11 @@ impl FileStateMachine {
         ensures ready { OnOk result (IsReady self.new) }
         ensures rests { OnOk result (IsTrue (D.kind disk.old).tells → Rests self.new (D.content disk.new)) }
         ensures appended { OnOk result (IsTrue (D.kind disk.old).tells →
-            payloads (self.new).gate (D.content disk.new).reading ≡ payloads (self.old).gate (D.content disk.old).reading ++ state_region_word (Records (all_recorded (self.old).map chunk.now)) ∷ []) }
+            payloads (self.new).gate (D.content disk.new).reading ≡ payloads (self.old).gate (D.content disk.old).reading ++ journaled (self.old).map chunk.now) }
         ensures same { IsConfiguredAs self.old self.new }
         ensures failed { IfErr result (LeavesOrEnds ((self.new ≡ self.old) × (disk.new ≡ disk.old)) (IsReady self.new → ⊥)) }
+        ensures want { IfErr result (OnWant (((self.new ≡ self.old) × (disk.new ≡ disk.old)) ⊎ (((self.new).failed ≡ true) × (IsTrue (D.kind disk.old).tells →
+            payloads (self.new).gate (D.content disk.new).reading ≡ payloads (self.old).gate (D.content disk.old).reading ++ journaled (self.old).map chunk.now)))) }
         ensures refused { IfErr result (IsWriteRefusal (Unit {0}) (Rose (D.faults disk.old) (D.faults disk.new)) (D.kind disk.old).limit) }
         ensures heavy { IfErr result (IsHeavy (D.kind disk.old).limit (state_weight self.old + store_rise (entries_size chunk.now))) }
     {
@@ -251,7 +253,8 @@ impl<D: Disk> StateMachine<D> for FileStateMachine {
     ghost keeps_rest = { keeps_settled };
 
     /// A chunk that is refused for its order or for want of a lease leaves all as it was, as does one without entries.
-    /// Any other adds one region to the journal.
+    /// Any other adds one region to the journal. Where memory was wanting it is as it was, or has failed with the region on
+    /// the disk.
     fn apply_chunk(&mut self, disk: &mut D, chunk: &[Entry]) -> Result<Rows<ApplyResult>, Error>
         requires ready { IsReady self.old }
         requires keeps { IsTrue (D.kind disk.old).tells → Keeps self.old (D.content disk.old) }
@@ -274,6 +277,8 @@ impl<D: Disk> StateMachine<D> for FileStateMachine {
         ensures heavy { IfErr result (IsHeavy (D.kind disk.old).limit (state_weight self.old + store_rise (entries_size chunk.now))) }
         ensures failed { IfErr result (LeavesOrEnds ((self.new ≡ self.old) × (disk.new ≡ disk.old)) (IsReady self.new → ⊥)) }
         ensures untouched { IfErr result (OnUntouched ((self.new ≡ self.old) × (disk.new ≡ disk.old))) }
+        ensures want { IfErr result (OnWant (((self.new ≡ self.old) × (disk.new ≡ disk.old)) ⊎ (((self.new).failed ≡ true) × (IsTrue (D.kind disk.old).tells →
+            payloads (self.new).gate (D.content disk.new).reading ≡ payloads (self.old).gate (D.content disk.old).reading ++ journaled (self.old).map chunk.now)))) }
         ensures appended { OnOk result (IsTrue (D.kind disk.old).tells →
             payloads (self.new).gate (D.content disk.new).reading ≡ payloads (self.old).gate (D.content disk.old).reading ++ journaled (self.old).map chunk.now) }
     {
