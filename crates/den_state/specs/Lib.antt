@@ -5,3 +5,4 @@ pub mod Journal
 pub mod Laws
 pub mod Machine
 pub mod Scan
+pub mod Written
