@@ -109,7 +109,8 @@ impl Map {
     pub fn unwritten(&self, alloc: Global) -> Writes
         ensures { IsOver result self.now self.now }
     {
-        let _rising = self.pairs.iter();
+        // A walk over the pairs says that their keys are sorted.
+        let _walk = self.pairs.iter();
         Writes::none(alloc)
     }
 
