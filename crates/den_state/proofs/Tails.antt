@@ -23,11 +23,18 @@ read_counts : (tail : ℕ) (payload : List ℕ) (r : StateRegion) → state_regi
 unfolding tail_after_payload
 read_counts tail payload r is = ap (λ (o : Option StateRegion). elim o [ None ↦ tail | Some region ↦ tail_after tail region ]) is
 
-written_counts : (tail : ℕ) (r : StateRegion) (before payload : List ℕ) → before ≡ [] → payload ≡ before ++ state_region_word r → FitsStateRegion r → tail_after_payload tail payload ≡ tail_after tail r
+written_reads : (r : StateRegion) (before payload : List ℕ) → before ≡ [] → payload ≡ before ++ state_region_word r → FitsStateRegion r → state_region_in payload ≡ Some r
 unfolding state_region_in
-written_counts tail r before payload none is fits =
+written_reads r before payload none is fits =
     let read : whole state_region_at (state_region_word r) ≡ Some r = word_again spells_state_region (state_region_word r) r (refl, fits) in
-    read_counts tail payload r (ap state_region_in (is ∙ ap (λ b. b ++ state_region_word r) none) ∙ read)
+    ap state_region_in (is ∙ ap (λ b. b ++ state_region_word r) none) ∙ read
+
+written_counts : (tail : ℕ) (r : StateRegion) (before payload : List ℕ) → before ≡ [] → payload ≡ before ++ state_region_word r → FitsStateRegion r → tail_after_payload tail payload ≡ tail_after tail r
+written_counts tail r before payload none is fits = read_counts tail payload r (written_reads r before payload none is fits)
+
+pub records_read : (rs slice : List JournalRecord) (before payload : List ℕ) → slice ≡ rs → before ≡ [] → payload ≡ before ++ state_region_word (Records slice) → FitsStateRegion (Records slice)
+    → state_region_in payload ≡ Some (Records rs)
+records_read rs slice before payload same none is fits = written_reads (Records slice) before payload none is fits ∙ ap (λ rs. Some (Records rs)) same
 
 pub cleanup_counts : (tail moment : ℕ) (before payload : List ℕ) → before ≡ [] → payload ≡ before ++ state_region_word (Records (Cleanup moment ∷ [])) → FitsStateRegion (Records (Cleanup moment ∷ []))
     → tail_after_payload tail payload ≡ min (tail + 1) (2 ^ 64 - 1)

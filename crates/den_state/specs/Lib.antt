@@ -6,3 +6,4 @@ pub mod Laws
 pub mod Machine
 pub mod Scan
 pub mod Tail
+pub mod Written

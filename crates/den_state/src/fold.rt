@@ -32,8 +32,8 @@ impl From<AllocError> for FoldError {
     }
 }
 
-// The place of the entry that a record is of; none for a cleanup.
-fn place_of(journaled: &JournalRecord) -> Option<LogId>
+/// The place of the entry that a record is of; none for a cleanup.
+pub fn place_of(journaled: &JournalRecord) -> Option<LogId>
     ensures { result ≡ place_of journaled.now }
 {
     match journaled {
