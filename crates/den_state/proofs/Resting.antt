@@ -16,7 +16,8 @@ use Rattle.den_model.specs.MapState.{MapState, empty_map, map_after_payload, map
 use Rattle.den_gate.specs.declared.gate.GateFile.{GateFile}
 use Rattle.den_gate.specs.Gate.{payloads, IsAtRest, IsCurrent, KeepsOrAddsFamily}
 use Rattle.den_gate.proofs.Families.{rest_list, adds_meaning}
-use Rattle.den_state.specs.Machine.{Lies, map_held, IsOpeningRefusal}
+use Rattle.den_state.specs.Chunk.{Leaves, LeavesOrEnds}
+use Rattle.den_state.specs.Machine.{Lies, map_held, IsOpeningRefusal, IsWriteRefusal}
 use Rattle.den_state.specs.Laws.{map_of_list, map_own, list_means, lies_image}
 use Rattle.den_state.proofs.Lists.{list_push}
 
@@ -63,6 +64,20 @@ lies_appended gate new m next old_content new_content payload l after slot rest 
   current = current;
   means = ap (λ list. map_from empty_map (placed 0 list)) appended ∙ list_push empty_map m next 0 (payloads gate old_content.reading) payload l.means after;
 }
+
+-- ---- refusals
+
+-- no memory is wanting at a write
+pub write_ends : (untouched ended rose : Type 0) (most : ℕ) (e : Error) → IsWriteRefusal ⊥ rose most e → ended → Leaves untouched ended e
+write_ends untouched ended rose most error.OutOfMemory refused end = absurd refused
+write_ends untouched ended rose most error.StorageIoError refused end = end
+write_ends untouched ended rose most (error.DiskFull needed limit) refused end = end
+write_ends untouched ended rose most _ refused end = tt
+
+pub write_leaves : (untouched ended rose : Type 0) (most : ℕ) (e : Error) → IsWriteRefusal ⊥ rose most e → ended → LeavesOrEnds untouched ended e
+write_leaves untouched ended rose most error.StorageIoError refused end = end
+write_leaves untouched ended rose most (error.DiskFull needed limit) refused end = end
+write_leaves untouched ended rose most _ refused end = absurd refused
 
 -- what two facts of a success give
 pub both_ok : {A B P Q R : Type 0} (r : Result A B) → (P → Q → R) → OnOk r P → OnOk r Q → OnOk r R

@@ -18,7 +18,7 @@ Folds (Err Memory) given new = Unit {0}
 Folds (Err Unlawful) given new = given ≡ None
 
 -- the same of a list, whose first unlawful payload has a place
-abbrev pub FoldsList : Result Unit ListError → Result MapState ℕ → MapState → Type 0
+abbrev pub FoldsList : {A : Type 0} → Result A ListError → Result MapState ℕ → MapState → Type 0
 FoldsList (Ok done) given new = given ≡ Ok new
 FoldsList (Err list_error.Memory) given new = Unit {0}
 FoldsList (Err (list_error.Unlawful offset)) given new = given ≡ Err offset

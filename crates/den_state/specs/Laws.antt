@@ -15,6 +15,7 @@ use Rattle.den_gate.specs.Gate.{payloads, HasList}
 use Rattle.den_gate.proofs.Families.{rest_spared, current_spared, payloads_spared, rest_image}
 use Rattle.den_state.specs.declared.file_machine.FileStateMachine.{FileStateMachine}
 use Rattle.den_state.specs.Machine.{Lies, Keeps, Rests, stored_map, map_held}
+use Rattle.den_state.specs.Tail.{tail_from}
 
 -- files whose State slot has a list give what the list gives
 pub map_of_list : (of : Family) (list : List (List ℕ)) (files : Files) (given : Result MapState ℕ) → of ≡ family.State → regions (files (slot_of of files)) ≡ Ok (placed 0 list)
@@ -40,11 +41,25 @@ lies_spared gate m old new spares l =
       means = ap (λ list. map_from empty_map (placed 0 list)) (payloads_spared gate old new own) ∙ l.means;
     }
 
+-- and so the records in it
+tail_spared : (s : FileStateMachine) (m : MapState) (old new : Content) → SparesOwn family.State old new → Lies s.gate m old → s.tail ≡ tail_from 0 (payloads s.gate old.reading) → s.tail ≡ tail_from 0 (payloads s.gate new.reading)
+tail_spared s m old new spares l tail =
+    let own : SparesOwn s.gate.slot.family old new = subst (λ f. SparesOwn f old new) (sym l.of_state) spares in
+    tail ∙ ap (tail_from 0) (sym (payloads_spared s.gate old new own))
+
 pub rests_spared : (s : FileStateMachine) (old new : Content) → SparesOwn family.State old new → Rests s old → Rests s new
-rests_spared s old new spares r = record { files = lies_spared s.gate s.map old new spares r.files; stored = r.stored }
+rests_spared s old new spares r = record {
+  files = lies_spared s.gate s.map old new spares r.files;
+  stored = r.stored;
+  tail = tail_spared s s.map old new spares r.files r.tail;
+}
 
 pub keeps_spared : (s : FileStateMachine) (old new : Content) → SparesOwn family.State old new → Keeps s old → Keeps s new
-keeps_spared s old new spares k = record { files = lies_spared s.gate (stored_map s) old new spares k.files; below = k.below }
+keeps_spared s old new spares k = record {
+  files = lies_spared s.gate (stored_map s) old new spares k.files;
+  below = k.below;
+  tail = tail_spared s (stored_map s) old new spares k.files k.tail;
+}
 
 pub held_own : (one other : Files) → SameOf family.State one other → map_held other ≡ map_held one
 held_own one other same = ap ok (map_own one other same)
@@ -67,7 +82,8 @@ pub keeps_rested : (s : FileStateMachine) (c : Content) → Rests s c → Keeps 
 keeps_rested s c r = record {
   files = subst (λ m. Lies s.gate m c) (stored_is s r.stored) r.files;
   below = subst (λ (p : LogId). s.stored.index ≤ p.index) r.stored (le_refl s.stored.index);
+  tail = r.tail;
 }
 
 pub keeps_settled : (s : FileStateMachine) (c : Content) → Keeps s c → s.stored ≡ s.map.mark → Rests s c
-keeps_settled s c k stored = record { files = subst (λ m. Lies s.gate m c) (sym (stored_is s stored)) k.files; stored = stored }
+keeps_settled s c k stored = record { files = subst (λ m. Lies s.gate m c) (sym (stored_is s stored)) k.files; stored = stored; tail = k.tail }

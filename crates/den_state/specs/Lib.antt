@@ -5,3 +5,5 @@ pub mod Journal
 pub mod Laws
 pub mod Machine
 pub mod Scan
+pub mod Tail
+pub mod Written

@@ -19,6 +19,7 @@ use Rattle.den_state.specs.declared.file_machine.FileStateMachine.{FileStateMach
 use Rattle.den_state.specs.declared.file_machine.SnapshotMetadata.{SnapshotMetadata}
 use Rattle.den_model.specs.declared.log_id.LogId.{LogId}
 use Rattle.den_state.specs.Journal.{all_recorded}
+use Rattle.den_state.specs.Tail.{tail_from}
 
 -- what files give of a map
 abbrev pub map_held : Files → Option MapState
@@ -27,6 +28,14 @@ map_held files = ok (map_in files)
 -- neither it nor its gate file has failed
 abbrev pub IsReady : FileStateMachine → Type 0
 IsReady s = (s.failed ≡ false) × (s.gate.failed ≡ false)
+
+-- the bytes of its regions
+abbrev pub state_weight : FileStateMachine → ℕ
+state_weight s = s.gate.end
+
+-- few records follow its last Begin region
+abbrev pub HasShortTail : FileStateMachine → Type 0
+HasShortTail s = s.tail < 1000
 
 -- a gate file at rest, the one that the State family's head names, whose payloads give this map
 pub record Lies (gate : GateFile) (m : MapState) (c : Content) : Type 0 where
@@ -39,15 +48,18 @@ pub record Lies (gate : GateFile) (m : MapState) (c : Content) : Type 0 where
 abbrev pub stored_map : FileStateMachine → MapState
 stored_map s = record s.map { mark = s.stored }
 
--- its files give its pairs and expiries with the stored mark, which is not above the applied one
+-- its files give its pairs and expiries with the stored mark, which is not above the applied one, and it knows how many
+-- records follow their last Begin region
 pub record Keeps (s : FileStateMachine) (c : Content) : Type 0 where
   pub files : Lies s.gate (stored_map s) c
   pub below : s.stored.index ≤ s.map.mark.index
+  pub tail : s.tail ≡ tail_from 0 (payloads s.gate c.reading)
 
--- its files give its map
+-- the same where its files give its map
 pub record Rests (s : FileStateMachine) (c : Content) : Type 0 where
   pub files : Lies s.gate s.map c
   pub stored : s.stored ≡ s.map.mark
+  pub tail : s.tail ≡ tail_from 0 (payloads s.gate c.reading)
 
 -- lease, metadata and running flag are as they were
 pub record IsConfiguredAs (old new : FileStateMachine) : Type 0 where
@@ -87,6 +99,11 @@ abbrev pub OnUntouched : Type 0 → Error → Type 0
 OnUntouched P (error.UnorderedChunk index) = P
 OnUntouched P error.FeatureNotEnabled = P
 OnUntouched P _ = Unit {0}
+
+-- a fact of want of memory
+abbrev pub OnWant : Type 0 → Error → Type 0
+OnWant P error.OutOfMemory = P
+OnWant P _ = Unit {0}
 
 -- what may refuse an opening: want of memory, a fault of the disk, and files that give no map
 abbrev pub IsOpeningRefusal : Type 0 → Bool → Files → Error → Type 0

@@ -1,27 +1,25 @@
 //! A chunk of entries: its order, and what it makes of the map in memory.
 ghost use Rattle.std.specs.Prelude.{◌≡◌, ◌<◌, ◌≤◌, ◌||◌, None, Some, IfOk, OnOk, length};
 ghost use Rattle.den_model.specs.declared.log_id.LogId.{LogId};
-ghost use Rattle.den_model.specs.MapState.{map_applied, map_applied_all, map_after_record, map_after_records, map_after_payload, results_of};
+ghost use Rattle.den_model.specs.MapState.{MapState, map_applied, map_applied_all, map_after_record, map_after_records, map_after_payload, results_of};
 ghost use Rattle.den_model.specs.declared.region.StateRegion.TheVariants.{Records};
+ghost use Rattle.den_model.specs.Reading.{state_region_in};
 ghost use Rattle.den_model.specs.Spelling.{state_region_word};
 ghost use Rattle.den_model.specs.Step.{has_ttl};
 ghost use Rattle.den_state.specs.Chunk.{out_of_order, asks_lease};
 ghost use Rattle.den_state.specs.Journal.{recorded, all_recorded, tells_success};
+ghost use Rattle.den_state.specs.Written.{IsOver};
 
+use crate::fold::place_of;
 use crate::map::Map;
-use den_codec::{ApplyResult, Command, Entry, JournalRecord, LogId, write_records};
+use crate::writes::Writes;
+use den_codec::{ApplyResult, Command, Entry, JournalRecord, write_records};
 use std::alloc::{AllocError, Global};
 
-/// What a chunk leaves: a record and a result for each entry.
-#[derive(Drop)]
-pub struct Applied {
-    pub records: Vec<JournalRecord>,
-    pub results: Vec<ApplyResult>,
-}
-
-/// The same in files: the word of a region of the records.
+/// What entries leave: the records of their outcomes, the word of a region of them, and a result for each.
 #[derive(Drop)]
 pub struct Journaled {
+    pub records: Vec<JournalRecord>,
     pub payload: Vec<u8>,
     pub results: Vec<ApplyResult>,
 }
@@ -72,60 +70,73 @@ fn tells_success(journaled: &JournalRecord) -> bool
 }
 
 impl Map {
-    // Takes on an entry, and answers its record.
-    fn apply(&mut self, alloc: Global, entry: &Entry) -> Result<JournalRecord, AllocError>
-        requires { (self.old).mark.index < entry.now.index }
-        ensures map { OnOk result (self.new ≡ map_applied self.old entry.now) }
-        ensures is { IfOk result (λ r. r ≡ recorded self.old entry.now) }
-        ensures lawful { IfOk result (λ r. map_after_record self.old r ≡ Some self.new) }
+    // The record of the next entry after the writes, to which it is added.
+    fn record_next(
+        &self,
+        alloc: Global,
+        writes: &mut Writes,
+        entry: &Entry,
+    ) -> Result<JournalRecord, AllocError>
+        ensures is { IfOk result (λ r. (s : MapState) → IsOver writes.old self.now s → r ≡ recorded s entry.now) }
+        ensures over { OnOk result ((s : MapState) → IsOver writes.old self.now s → IsOver writes.new self.now (map_applied s entry.now)) }
+        ensures lawful { IfOk result (λ r. (s : MapState) → s.mark.index < entry.now.index → r ≡ recorded s entry.now → map_after_record s r ≡ Some (map_applied s entry.now)) }
     {
-        let journaled = self.record_of(entry)?;
-        self.carry_out(alloc, &journaled)?;
+        let journaled = self.record_of(writes, entry)?;
+        writes.note(alloc, &journaled)?;
         let moment = entry.moment();
         prove!(1 <= moment);
-        self.set_mark(LogId {
-            index: entry.index(),
-            term: entry.term(),
-        });
         Ok(journaled)
     }
 
-    /// Takes on entries in order, and answers the record and the result of each.
-    pub fn apply_all(&mut self, alloc: Global, chunk: &[Entry]) -> Result<Applied, AllocError>
-        requires { out_of_order (self.old).mark.index chunk.now ≡ None }
-        ensures map { OnOk result (self.new ≡ map_applied_all self.old chunk.now) }
-        ensures records { IfOk result (λ applied. applied.records.items ≡ all_recorded self.old chunk.now) }
-        ensures lawful { IfOk result (λ applied. map_after_records self.old applied.records.items ≡ Some self.new) }
-        ensures results { IfOk result (λ applied. applied.results.items ≡ results_of self.old chunk.now) }
+    /// The records and the results of entries in order, and the word of the region of the records. The map stays as it is.
+    pub fn journal(&self, alloc: Global, chunk: &[Entry]) -> Result<Journaled, AllocError>
+        requires { out_of_order self.now.mark.index chunk.now ≡ None }
+        ensures records { IfOk result (λ journaled. journaled.records.items ≡ all_recorded self.now chunk.now) }
+        ensures payload { IfOk result (λ journaled. journaled.payload.items ≡ state_region_word (Records (all_recorded self.now chunk.now))) }
+        ensures reads { IfOk result (λ journaled. state_region_in journaled.payload.items ≡ Some (Records (all_recorded self.now chunk.now))) }
+        ensures means { IfOk result (λ journaled. (from : LogId) → from.index ≤ self.now.mark.index → 1 ≤ length chunk.now
+            → map_after_payload (record self.now { mark = from }) journaled.payload.items ≡ Some (map_applied_all self.now chunk.now)) }
+        ensures lawful { IfOk result (λ journaled. map_after_records self.now journaled.records.items ≡ Some (map_applied_all self.now chunk.now)) }
+        ensures results { IfOk result (λ journaled. journaled.results.items ≡ results_of self.now chunk.now) }
     {
+        let mut writes = self.unwritten(alloc);
         let mut records = Vec::new(alloc);
         let mut results = Vec::new(alloc);
         for entry in chunk {
-            let journaled = self.apply(alloc, entry)?;
+            let journaled = self.record_next(alloc, &mut writes, entry)?;
             results.push(ApplyResult {
                 index: entry.index(),
                 succeeded: tells_success(&journaled),
             })?;
             records.push(journaled)?;
         }
-        Ok(Applied { records, results })
+        let mut payload = Vec::new(alloc);
+        write_records(&records, &mut payload)?;
+        Ok(Journaled {
+            records,
+            payload,
+            results,
+        })
     }
 
-    /// Takes on entries in order, and answers the word of the region of their records, and their results.
-    pub fn journal(&mut self, alloc: Global, chunk: &[Entry]) -> Result<Journaled, AllocError>
-        requires { out_of_order (self.old).mark.index chunk.now ≡ None }
-        ensures map { OnOk result (self.new ≡ map_applied_all self.old chunk.now) }
-        ensures payload { IfOk result (λ journaled. journaled.payload.items ≡ state_region_word (Records (all_recorded self.old chunk.now))) }
-        ensures means { IfOk result (λ journaled. (from : LogId) → from.index ≤ (self.old).mark.index → 1 ≤ length chunk.now
-            → map_after_payload (record self.old { mark = from }) journaled.payload.items ≡ Some self.new) }
-        ensures results { IfOk result (λ journaled. journaled.results.items ≡ results_of self.old chunk.now) }
+    // Takes on a record that is lawful.
+    fn follow(&mut self, alloc: Global, journaled: &JournalRecord) -> Result<(), AllocError>
+        ensures { OnOk result ((next : MapState) → map_after_record self.old journaled.now ≡ Some next → self.new ≡ next) }
     {
-        let applied = self.apply_all(alloc, chunk)?;
-        let mut payload = Vec::new(alloc);
-        write_records(&applied.records, &mut payload)?;
-        Ok(Journaled {
-            payload,
-            results: applied.results,
-        })
+        self.carry_out(alloc, journaled)?;
+        if let Some(place) = place_of(journaled) {
+            self.set_mark(place);
+        }
+        Ok(())
+    }
+
+    /// Takes on records that are lawful, as those of entries in order are.
+    pub fn take_on(&mut self, alloc: Global, records: &[JournalRecord]) -> Result<(), AllocError>
+        ensures map { OnOk result ((next : MapState) → map_after_records self.old records.now ≡ Some next → self.new ≡ next) }
+    {
+        for journaled in records {
+            self.follow(alloc, journaled)?;
+        }
+        Ok(())
     }
 }

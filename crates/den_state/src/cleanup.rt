@@ -1,5 +1,5 @@
 //! The cleanup of expired keys.
-ghost use Rattle.std.specs.Prelude.{◌≡◌, ◌≤◌, ◌+◌, ◌&&◌, [], false, Some, max, IsTrue, IfOk, IfErr, OnOk, length};
+ghost use Rattle.std.specs.Prelude.{◌≡◌, ◌≤◌, ◌+◌, ◌-◌, ◌^◌, ◌&&◌, ℕ, [], false, Some, min, max, IsTrue, IfOk, IfErr, OnOk, length};
 ghost use Rattle.std.specs.List.Sorted.{IsStrictlySortedBy};
 ghost use Rattle.den_disk.specs.declared.place.Family.TheVariants.{State as state_family};
 ghost use Rattle.den_disk.specs.Goes.{Rose, DiskGoesOn};
@@ -9,9 +9,10 @@ ghost use Rattle.den_model.specs.Sizes.{store_rise};
 ghost use Rattle.den_model.specs.Table.{by_bytes};
 ghost use Rattle.den_codec.specs.Full.{IsHeavy};
 ghost use Rattle.den_lease.specs.Due.{due_keys, has_due};
-ghost use Rattle.den_state.specs.Chunk.{LeavesOrEnds};
+ghost use Rattle.den_state.specs.Chunk.{Leaves};
 ghost use Rattle.den_state.specs.Cleanup.{cleaned_map, cleaned_where, removed_where};
-ghost use Rattle.den_state.specs.Machine.{IsReady, Keeps, Rests, IsConfiguredAs, IsWriteRefusal, map_held, stored_map};
+ghost use Rattle.den_state.specs.Machine.{IsReady, Keeps, Rests, IsConfiguredAs, IsWriteRefusal, map_held, stored_map, state_weight};
+ghost use Rattle.den_state.specs.Tail.{tail_after_payload};
 
 use crate::FileStateMachine;
 use crate::map::Map;
@@ -29,6 +30,7 @@ struct Due {
 // The word of a region of one cleanup.
 fn cleanup_payload(alloc: Global, moment: Positive) -> Result<Vec<u8>, AllocError>
     ensures means { IfOk result (λ p. (m : MapState) → map_after_payload m p.items ≡ Some (cleaned_map moment m)) }
+    ensures counts { IfOk result (λ p. (tail : ℕ) → tail_after_payload tail p.items ≡ min (tail + 1) (2 ^ 64 - 1)) }
     ensures long { IfOk result (λ p. length p.items ≤ 128) }
 {
     let mut payload = Vec::new(alloc);
@@ -40,6 +42,7 @@ fn prepare(alloc: Global, map: &Map, moment: Positive) -> Result<Due, AllocError
     ensures keys { IfOk result (λ due. due.keys ≡ due_keys moment map.now.expiries) }
     ensures sorted { IfOk result (λ due. IsStrictlySortedBy by_bytes due.keys) }
     ensures means { IfOk result (λ due. (m : MapState) → map_after_payload m due.payload.items ≡ Some (cleaned_map moment m)) }
+    ensures counts { IfOk result (λ due. (tail : ℕ) → tail_after_payload tail due.payload.items ≡ min (tail + 1) (2 ^ 64 - 1)) }
     ensures long { IfOk result (λ due. length due.payload.items ≤ 128) }
 {
     Ok(Due {
@@ -72,12 +75,12 @@ impl FileStateMachine {
         ensures nothing { ((self.old).leased && has_due (max now 1) (self.old).map.expiries) ≡ false → (self.new ≡ self.old) × (disk.new ≡ disk.old) }
         ensures stored { (self.new).stored ≡ (self.old).stored }
         ensures same { IsConfiguredAs self.old self.new }
-        ensures weight { OnOk result ((self.new).gate.end ≤ (self.old).gate.end + store_rise 0) }
+        ensures weight { OnOk result (state_weight self.new ≤ state_weight self.old + store_rise 0) }
         ensures ready { OnOk result (IsReady self.new) }
         ensures keeps { OnOk result (IsTrue (D.kind disk.old).tells → Keeps self.new (D.content disk.new)) }
         ensures refused { IfErr result (IsWriteRefusal (Unit {0}) (Rose (D.faults disk.old) (D.faults disk.new)) (D.kind disk.old).limit) }
-        ensures heavy { IfErr result (IsHeavy (D.kind disk.old).limit ((self.old).gate.end + store_rise 0)) }
-        ensures failed { IfErr result (LeavesOrEnds ((self.new ≡ self.old) × (disk.new ≡ disk.old)) (IsReady self.new → ⊥)) }
+        ensures heavy { IfErr result (IsHeavy (D.kind disk.old).limit (state_weight self.old + store_rise 0)) }
+        ensures failed { IfErr result (Leaves ((self.new ≡ self.old) × (disk.new ≡ disk.old)) (IsReady self.new → ⊥)) }
     {
         let moment = Positive::of(now.max(1));
         if !self.is_due(moment.get()) {
@@ -86,6 +89,7 @@ impl FileStateMachine {
         let due = prepare(self.alloc, &self.map, moment)?;
         self.append(disk, &due.payload)?;
         self.map.clean(moment);
+        self.tail = self.tail.saturating_add(1);
         Ok(due.keys)
     }
 }

@@ -1,10 +1,10 @@
 //! The state machine in files.
-ghost use Rattle.std.specs.Prelude.{◌≡◌, ◌≤◌, ◌<◌, ◌↔◌, ◌+◌, ◌*◌, ◌∷◌, ◌++◌, ℕ, List, [], true, false, None, Some, Ok, Err, IsTrue, IfSome, is_some, IfOk, IfErr, OnOk, OnErr, length};
+ghost use Rattle.std.specs.Prelude.{◌≡◌, ◌≤◌, ◌<◌, ◌↔◌, ◌+◌, ◌-◌, ◌*◌, ◌⊎◌, ◌^◌, min, ◌∷◌, ◌++◌, ℕ, List, [], true, false, None, Some, Ok, Err, IsTrue, IfSome, is_some, IfOk, IfErr, OnOk, OnErr, length};
 ghost use Rattle.den_disk.specs.declared.place.Family.TheVariants.{State as state_family};
 ghost use Rattle.den_disk.specs.Goes.{Rose, DiskGoesOn};
 ghost use Rattle.den_disk.specs.Families.{SparesAll, SparesOthers, SparesImages, NoNewImages, OldOrNew};
 ghost use Rattle.den_model.specs.Image.{map_in};
-ghost use Rattle.den_model.specs.MapState.{MapState, map_applied_all, map_after_payload, results_of};
+ghost use Rattle.den_model.specs.MapState.{MapState, map_applied_all, map_after_payload, map_after_records, results_of};
 ghost use Rattle.den_model.specs.declared.region.StateRegion.TheVariants.{Records};
 ghost use Rattle.den_model.specs.Sizes.{entries_size, family_size, store_rise};
 ghost use Rattle.den_model.specs.Spelling.{state_region_word};
@@ -12,18 +12,18 @@ ghost use Rattle.den_codec.specs.Full.{IsHeavy};
 ghost use Rattle.den_gate.specs.Gate.{payloads, IsAtRest, IsCurrent};
 ghost use Rattle.den_state.specs.Chunk.{out_of_order, lacks_lease, IsChunkRefusal, LeavesOrEnds};
 ghost use Rattle.den_state.specs.Journal.{all_recorded};
-ghost use Rattle.den_state.specs.Machine.{IsReady, Lies, Keeps, Rests, IsConfiguredAs, IsSetAs, IsDurable, IsOpeningRefusal, IsWriteRefusal, OnUntouched, journaled, map_held, stored_map, state_error};
+ghost use Rattle.den_state.specs.Machine.{HasShortTail, IsReady, Lies, Keeps, Rests, IsConfiguredAs, IsSetAs, IsDurable, IsOpeningRefusal, IsWriteRefusal, OnUntouched, OnWant, journaled, map_held, stored_map, state_error, state_weight};
 ghost use Rattle.den_state.specs.Laws.{rests_spared, keeps_spared, keeps_rested, keeps_settled, held_own, lies_image, rests_image};
 
 use crate::StateMachine;
 use crate::chunk::{asks_lease, out_of_order};
 use crate::fold::ListError;
 use crate::map::Map;
-use den_codec::{ApplyResult, Blob, Entry, Error, LogId, Rows, ScanResult};
+use den_codec::{ApplyResult, Blob, Entry, Error, JournalRecord, LogId, Rows, ScanResult};
 use den_disk::{Disk, Family, Place};
 use den_gate::{GateError, GateFile};
 use den_lease::DefaultLease;
-use std::alloc::Global;
+use std::alloc::{AllocError, Global};
 
 /// A map in memory, whose journal is the gate file of the State family.
 #[derive(Drop)]
@@ -34,6 +34,8 @@ pub struct FileStateMachine {
     pub(crate) failed: bool,
     /// The mark that the files hold.
     pub(crate) stored: LogId,
+    /// How many records follow the last Begin region of the files, at most 2^64 - 1.
+    pub(crate) tail: u64,
     pub(crate) leased: bool,
     pub(crate) metadata: Option<SnapshotMetadata>,
     pub(crate) running: bool,
@@ -85,7 +87,7 @@ impl FileStateMachine {
         ensures lease { IfOk result (λ s. s.leased ≡ is_some lease) }
         ensures metadata { IfOk result (λ s. s.metadata ≡ None) }
         ensures running { IfOk result (λ s. s.running ≡ true) }
-        ensures weight { IsTrue (D.kind disk.old).tells → IfOk result (λ s. s.gate.end ≡ family_size state_family (D.content disk.old).reading) }
+        ensures weight { IsTrue (D.kind disk.old).tells → IfOk result (λ s. state_weight s ≡ family_size state_family (D.content disk.old).reading) }
         ensures rests { IsTrue (D.kind disk.old).tells → IfOk result (λ s. Rests s (D.content disk.new)) }
         ensures refused { IfErr result (IsOpeningRefusal (Rose (D.faults disk.old) (D.faults disk.new)) (D.kind disk.old).tells (D.content disk.old).reading) }
     {
@@ -99,7 +101,7 @@ impl FileStateMachine {
         };
         let mut map = Map::at(alloc, LogId { index: 0, term: 0 });
         match map.add_list(alloc, list.as_slice()) {
-            Ok(()) => {
+            Ok(tail) => {
                 let stored = map.mark();
                 Ok(FileStateMachine {
                     alloc,
@@ -107,6 +109,7 @@ impl FileStateMachine {
                     map,
                     failed: false,
                     stored,
+                    tail,
                     leased: lease.is_some(),
                     metadata: None,
                     running: true,
@@ -140,7 +143,7 @@ impl FileStateMachine {
         ensures failed { OnErr result ((self.new).failed ≡ true) }
         ensures rest { self.new ≡ record self.old { gate = (self.new).gate; failed = (self.new).failed } }
         ensures refused { IfErr result (IsWriteRefusal ⊥ (Rose (D.faults disk.old) (D.faults disk.new)) (D.kind disk.old).limit) }
-        ensures heavy { IfErr result (λ e. (size : ℕ) → length payload.now ≤ 128 + 4 * size → IsHeavy (D.kind disk.old).limit ((self.old).gate.end + store_rise size) e) }
+        ensures heavy { IfErr result (λ e. (size : ℕ) → length payload.now ≤ 128 + 4 * size → IsHeavy (D.kind disk.old).limit (state_weight self.old + store_rise size) e) }
     {
         self.failed = true;
         match self.gate.append(disk, payload) {
@@ -156,7 +159,27 @@ impl FileStateMachine {
         }
     }
 
-    // Applies entries that are in order and may live as long as they ask: one region of records, whatever becomes of it.
+    // Takes on the records of entries, which the files hold by now, and its place. Where memory is wanting it has failed.
+    fn take_on(&mut self, chunk: &[Entry], records: &[JournalRecord]) -> Result<(), AllocError>
+        requires { map_after_records (self.old).map records.now ≡ Some (map_applied_all (self.old).map chunk.now) }
+        ensures map { OnOk result ((self.new).map ≡ map_applied_all (self.old).map chunk.now) }
+        ensures stored { OnOk result ((self.new).stored ≡ (self.new).map.mark) }
+        ensures tail { OnOk result ((self.new).tail ≡ min ((self.old).tail + length chunk.now) (2 ^ 64 - 1)) }
+        ensures ready { OnOk result ((self.new).failed ≡ false) }
+        ensures failed { OnErr result ((self.new).failed ≡ true) }
+        ensures gate { (self.new).gate ≡ (self.old).gate }
+        ensures same { IsConfiguredAs self.old self.new }
+    {
+        let taken = self.map.take_on(self.alloc, records);
+        self.failed = taken.is_err();
+        taken?;
+        self.stored = self.map.mark();
+        self.tail = self.tail.saturating_add(chunk.len() as u64);
+        Ok(())
+    }
+
+    // Applies entries that are in order and may live as long as they ask: one region of records. Memory that is wanting
+    // before the region is written leaves all as it was.
     fn commit<D: Disk>(&mut self, disk: &mut D, chunk: &[Entry]) -> Result<Rows<ApplyResult>, Error>
         requires ready { IsReady self.old }
         requires keeps { IsTrue (D.kind disk.old).tells → Keeps self.old (D.content disk.old) }
@@ -168,61 +191,23 @@ impl FileStateMachine {
         ensures spares { IsTrue (D.kind disk.old).tells → SparesOthers state_family (D.content disk.old) (D.content disk.new) }
         ensures applied { OnOk result ((self.new).map ≡ map_applied_all (self.old).map chunk.now) }
         ensures results { IfOk result (λ results. results ≡ results_of (self.old).map chunk.now) }
-        ensures weight { OnOk result (self.new.gate.end ≤ self.old.gate.end + store_rise (entries_size chunk.now)) }
+        ensures stored { OnOk result ((self.new).stored ≡ (self.new).map.mark) }
+        ensures weight { OnOk result (state_weight self.new ≤ state_weight self.old + store_rise (entries_size chunk.now)) }
         ensures ready { OnOk result (IsReady self.new) }
         ensures rests { OnOk result (IsTrue (D.kind disk.old).tells → Rests self.new (D.content disk.new)) }
         ensures appended { OnOk result (IsTrue (D.kind disk.old).tells →
-            payloads (self.new).gate (D.content disk.new).reading ≡ payloads (self.old).gate (D.content disk.old).reading ++ state_region_word (Records (all_recorded (self.old).map chunk.now)) ∷ []) }
+            payloads (self.new).gate (D.content disk.new).reading ≡ payloads (self.old).gate (D.content disk.old).reading ++ journaled (self.old).map chunk.now) }
         ensures same { IsConfiguredAs self.old self.new }
-        ensures failed { OnErr result ((self.new).failed ≡ true) }
+        ensures failed { IfErr result (LeavesOrEnds ((self.new ≡ self.old) × (disk.new ≡ disk.old)) (IsReady self.new → ⊥)) }
+        ensures want { IfErr result (OnWant (((self.new ≡ self.old) × (disk.new ≡ disk.old)) ⊎ (((self.new).failed ≡ true) × (IsTrue (D.kind disk.old).tells →
+            payloads (self.new).gate (D.content disk.new).reading ≡ payloads (self.old).gate (D.content disk.old).reading ++ journaled (self.old).map chunk.now)))) }
         ensures refused { IfErr result (IsWriteRefusal (Unit {0}) (Rose (D.faults disk.old) (D.faults disk.new)) (D.kind disk.old).limit) }
-        ensures heavy { IfErr result (IsHeavy (D.kind disk.old).limit (self.old.gate.end + store_rise (entries_size chunk.now))) }
+        ensures heavy { IfErr result (IsHeavy (D.kind disk.old).limit (state_weight self.old + store_rise (entries_size chunk.now))) }
     {
-        self.failed = true;
         let journaled = self.map.journal(self.alloc, chunk)?;
         self.append(disk, &journaled.payload)?;
-        self.stored = self.map.mark();
+        self.take_on(chunk, &journaled.records)?;
         Ok(Rows::of(journaled.results))
-    }
-
-    /// Applies entries as `apply_chunk` does, also where the applied mark is not stored. A chunk that is refused for its order or for want of a lease leaves all as it was, as does one without entries.
-    /// Any other adds one region to the journal.
-    pub fn apply<D: Disk>(
-        &mut self,
-        disk: &mut D,
-        chunk: &[Entry],
-    ) -> Result<Rows<ApplyResult>, Error>
-        requires ready { IsReady self.old }
-        requires keeps { IsTrue (D.kind disk.old).tells → Keeps self.old (D.content disk.old) }
-        ensures disk { DiskGoesOn D.kind D.moment D.images D.faults disk.old disk.new }
-        ensures own { IsTrue (D.kind disk.old).tells → OldOrNew map_held (D.images disk.new) (D.moment disk.old) (D.moment disk.new) (stored_map self.old) (map_applied_all (self.old).map chunk.now) }
-        ensures others { IsTrue (D.kind disk.old).tells → SparesImages state_family (D.images disk.old) (D.images disk.new) (D.moment disk.old) (D.moment disk.new) }
-        ensures spares { IsTrue (D.kind disk.old).tells → SparesOthers state_family (D.content disk.old) (D.content disk.new) }
-        ensures applied { OnOk result ((self.new).map ≡ map_applied_all (self.old).map chunk.now) }
-        ensures results { IfOk result (λ results. results ≡ results_of (self.old).map chunk.now) }
-        ensures in_order { OnOk result ((out_of_order (self.old).map.mark.index chunk.now ≡ None) × (lacks_lease (self.old).leased chunk.now ≡ false)) }
-        ensures same { IsConfiguredAs self.old self.new }
-        ensures weight { OnOk result (self.new.gate.end ≤ self.old.gate.end + store_rise (entries_size chunk.now)) }
-        ensures ready { OnOk result (IsReady self.new) }
-        ensures rests { OnOk result (1 ≤ length chunk.now → IsTrue (D.kind disk.old).tells → Rests self.new (D.content disk.new)) }
-        ensures refused { IfErr result (IsChunkRefusal (self.old).leased (Rose (D.faults disk.old) (D.faults disk.new)) (D.kind disk.old).limit (self.old).map.mark.index chunk.now) }
-        ensures heavy { IfErr result (IsHeavy (D.kind disk.old).limit (self.old.gate.end + store_rise (entries_size chunk.now))) }
-        ensures failed { IfErr result (LeavesOrEnds ((self.new ≡ self.old) × (disk.new ≡ disk.old)) (IsReady self.new → ⊥)) }
-        ensures untouched { IfErr result (OnUntouched ((self.new ≡ self.old) × (disk.new ≡ disk.old))) }
-        ensures nothing { chunk.now ≡ [] → (self.new ≡ self.old) × (disk.new ≡ disk.old) }
-        ensures appended { OnOk result (IsTrue (D.kind disk.old).tells →
-            payloads (self.new).gate (D.content disk.new).reading ≡ payloads (self.old).gate (D.content disk.old).reading ++ journaled (self.old).map chunk.now) }
-    {
-        if let Some(index) = out_of_order(self.map.mark().index, chunk) {
-            return Err(Error::UnorderedChunk { index });
-        }
-        if !self.leased && asks_lease(chunk) {
-            return Err(Error::FeatureNotEnabled);
-        }
-        if chunk.is_empty() {
-            return Ok(Rows::of(Vec::new(self.alloc)));
-        }
-        self.commit(disk, chunk)
     }
 }
 
@@ -246,7 +231,10 @@ impl<D: Disk> StateMachine<D> for FileStateMachine {
     ghost keeps = { Keeps };
 
     /// The regions of its journal.
-    ghost weight = { λ s. s.gate.end };
+    ghost weight = { state_weight };
+
+    /// Fewer than 1,000 records follow the last Begin region.
+    ghost short = { HasShortTail };
 
     ghost rests_own = { rests_spared };
 
@@ -260,34 +248,50 @@ impl<D: Disk> StateMachine<D> for FileStateMachine {
 
     ghost rests_keep = { λ s c rests. (keeps_rested s c rests, rests.stored) };
 
+    ghost keeps_below = { λ s c keeps. keeps.below };
+
     ghost keeps_rest = { keeps_settled };
 
     /// A chunk that is refused for its order or for want of a lease leaves all as it was, as does one without entries.
-    /// Any other adds one region to the journal.
+    /// Any other adds one region to the journal. Where memory was wanting it is as it was, or has failed with the region on
+    /// the disk.
     fn apply_chunk(&mut self, disk: &mut D, chunk: &[Entry]) -> Result<Rows<ApplyResult>, Error>
         requires ready { IsReady self.old }
-        requires rests { IsTrue (D.kind disk.old).tells → Rests self.old (D.content disk.old) }
+        requires keeps { IsTrue (D.kind disk.old).tells → Keeps self.old (D.content disk.old) }
         ensures disk { DiskGoesOn D.kind D.moment D.images D.faults disk.old disk.new }
-        ensures own { IsTrue (D.kind disk.old).tells → OldOrNew map_held (D.images disk.new) (D.moment disk.old) (D.moment disk.new) (self.old).map (map_applied_all (self.old).map chunk.now) }
+        ensures own { IsTrue (D.kind disk.old).tells → OldOrNew map_held (D.images disk.new) (D.moment disk.old) (D.moment disk.new) (stored_map self.old) (map_applied_all (self.old).map chunk.now) }
         ensures others { IsTrue (D.kind disk.old).tells → SparesImages state_family (D.images disk.old) (D.images disk.new) (D.moment disk.old) (D.moment disk.new) }
         ensures spares { IsTrue (D.kind disk.old).tells → SparesOthers state_family (D.content disk.old) (D.content disk.new) }
         ensures applied { OnOk result ((self.new).map ≡ map_applied_all (self.old).map chunk.now) }
         ensures results { IfOk result (λ results. results ≡ results_of (self.old).map chunk.now) }
         ensures in_order { OnOk result ((out_of_order (self.old).map.mark.index chunk.now ≡ None) × (lacks_lease (self.old).leased chunk.now ≡ false)) }
+        ensures nothing { chunk.now ≡ [] → (self.new ≡ self.old) × (disk.new ≡ disk.old) }
+        ensures stored { OnOk result (1 ≤ length chunk.now → (self.new).stored ≡ (self.new).map.mark) }
         ensures lease { (self.new).leased ≡ (self.old).leased }
         ensures set { IsSetAs (self.old).running (self.old).metadata (self.new).running (self.new).metadata }
-        ensures weight { OnOk result (self.new.gate.end ≤ self.old.gate.end + store_rise (entries_size chunk.now)) }
+        ensures weight { OnOk result (state_weight self.new ≤ state_weight self.old + store_rise (entries_size chunk.now)) }
         ensures ready { OnOk result (IsReady self.new) }
-        ensures rests { OnOk result (IsTrue (D.kind disk.old).tells → Rests self.new (D.content disk.new)) }
+        ensures keeps { OnOk result (IsTrue (D.kind disk.old).tells → Keeps self.new (D.content disk.new)) }
+        ensures rests { OnOk result (1 ≤ length chunk.now → IsTrue (D.kind disk.old).tells → Rests self.new (D.content disk.new)) }
         ensures refused { IfErr result (IsChunkRefusal (self.old).leased (Rose (D.faults disk.old) (D.faults disk.new)) (D.kind disk.old).limit (self.old).map.mark.index chunk.now) }
-        ensures heavy { IfErr result (IsHeavy (D.kind disk.old).limit (self.old.gate.end + store_rise (entries_size chunk.now))) }
+        ensures heavy { IfErr result (IsHeavy (D.kind disk.old).limit (state_weight self.old + store_rise (entries_size chunk.now))) }
         ensures failed { IfErr result (LeavesOrEnds ((self.new ≡ self.old) × (disk.new ≡ disk.old)) (IsReady self.new → ⊥)) }
         ensures untouched { IfErr result (OnUntouched ((self.new ≡ self.old) × (disk.new ≡ disk.old))) }
-        ensures nothing { chunk.now ≡ [] → (self.new ≡ self.old) × (disk.new ≡ disk.old) }
+        ensures want { IfErr result (OnWant (((self.new ≡ self.old) × (disk.new ≡ disk.old)) ⊎ (((self.new).failed ≡ true) × (IsTrue (D.kind disk.old).tells →
+            payloads (self.new).gate (D.content disk.new).reading ≡ payloads (self.old).gate (D.content disk.old).reading ++ journaled (self.old).map chunk.now)))) }
         ensures appended { OnOk result (IsTrue (D.kind disk.old).tells →
             payloads (self.new).gate (D.content disk.new).reading ≡ payloads (self.old).gate (D.content disk.old).reading ++ journaled (self.old).map chunk.now) }
     {
-        self.apply(disk, chunk)
+        if let Some(index) = out_of_order(self.map.mark().index, chunk) {
+            return Err(Error::UnorderedChunk { index });
+        }
+        if !self.leased && asks_lease(chunk) {
+            return Err(Error::FeatureNotEnabled);
+        }
+        if chunk.is_empty() {
+            return Ok(Rows::of(Vec::new(self.alloc)));
+        }
+        self.commit(disk, chunk)
     }
 
     fn update_last_applied(&mut self, last_applied: LogId) {

@@ -1,9 +1,10 @@
 //! The fold over the journal: what records and regions make of the map.
-ghost use Rattle.std.specs.Prelude.{◌≡◌, ◌<◌, ◌^◌, OnOk, length};
+ghost use Rattle.std.specs.Prelude.{◌≡◌, ◌<◌, ◌^◌, IfOk, OnOk, length};
 ghost use Rattle.den_model.specs.MapState.{with_pairs, map_after_record, map_after_records, map_after, map_after_payload, map_from};
 ghost use Rattle.den_model.specs.Regions.{open_regions, placed};
 ghost use Rattle.den_state.specs.declared.fold.FoldError.TheVariants.{Memory};
 ghost use Rattle.den_state.specs.Fold.{Folds, FoldsList, place_of};
+ghost use Rattle.den_state.specs.Tail.{tail_after, tail_after_payload, tail_from};
 
 use crate::map::Map;
 use den_codec::{Blob, Held, JournalRecord, LogId, StateRegion, StoredPair, Word};
@@ -31,8 +32,8 @@ impl From<AllocError> for FoldError {
     }
 }
 
-// The place of the entry that a record is of; none for a cleanup.
-fn place_of(journaled: &JournalRecord) -> Option<LogId>
+/// The place of the entry that a record is of; none for a cleanup.
+pub fn place_of(journaled: &JournalRecord) -> Option<LogId>
     ensures { result ≡ place_of journaled.now }
 {
     match journaled {
@@ -44,6 +45,17 @@ fn place_of(journaled: &JournalRecord) -> Option<LogId>
             term: *term,
         }),
         JournalRecord::Cleanup { .. } => None,
+    }
+}
+
+// How many records follow the last Begin region behind this one, where so many do before it.
+fn tail_after(tail: u64, region: &StateRegion) -> u64
+    ensures { result ≡ tail_after tail region.now }
+{
+    match region {
+        StateRegion::Begin { .. } => 0,
+        StateRegion::Records { records } => tail.saturating_add(records.as_slice().len() as u64),
+        StateRegion::Pairs { .. } | StateRegion::Mark { .. } => tail,
     }
 }
 
@@ -120,25 +132,37 @@ impl Map {
         }
     }
 
-    /// Takes on the region whose word the payload is.
-    #[tactic(auto, unfolding(den_model::specs::MapState::map_after_payload, den_model::specs::Reading::state_region_in))]
-    pub fn add_payload(&mut self, alloc: Global, payload: &[u8]) -> Result<(), FoldError>
-        ensures { Folds result (map_after_payload self.old payload.now) self.new }
+    /// Takes on the region whose word the payload is, and counts the records that follow the last Begin region then.
+    #[tactic(auto, unfolding(den_model::specs::MapState::map_after_payload, den_model::specs::Reading::state_region_in, crate::specs::Tail::tail_after_payload))]
+    pub fn add_payload(
+        &mut self,
+        alloc: Global,
+        payload: &[u8],
+        tail: &mut u64,
+    ) -> Result<(), FoldError>
+        ensures map { Folds result (map_after_payload self.old payload.now) self.new }
+        ensures tail { OnOk result (tail.new ≡ tail_after_payload tail.old payload.now) }
     {
         match StateRegion::read(alloc, payload)? {
             None => Err(FoldError::Unlawful),
-            Some(region) => self.add_region(alloc, &region),
+            Some(region) => {
+                *tail = tail_after(*tail, &region);
+                self.add_region(alloc, &region)
+            }
         }
     }
 
-    /// Takes on payloads in order, the first of them at place 0.
-    pub fn add_list(&mut self, alloc: Global, list: &[Blob]) -> Result<(), ListError>
-        ensures { length (open_regions list.now) < 2 ^ 64 → FoldsList result (map_from self.old (placed 0 list.now)) self.new }
+    /// Takes on payloads in order, the first of them at place 0, and answers how many records follow the last Begin
+    /// region.
+    pub fn add_list(&mut self, alloc: Global, list: &[Blob]) -> Result<u64, ListError>
+        ensures map { length (open_regions list.now) < 2 ^ 64 → FoldsList result (map_from self.old (placed 0 list.now)) self.new }
+        ensures tail { IfOk result (λ tail. tail ≡ tail_from 0 list.now) }
     {
         let mut offset = 0u64;
+        let mut tail = 0u64;
         for payload in list {
             let payload = payload.as_slice();
-            match self.add_payload(alloc, payload) {
+            match self.add_payload(alloc, payload, &mut tail) {
                 Ok(()) => {}
                 Err(FoldError::Memory) => return Err(ListError::Memory),
                 Err(FoldError::Unlawful) => return Err(ListError::Unlawful { offset }),
@@ -147,6 +171,6 @@ impl Map {
                 .saturating_add(9)
                 .saturating_add(payload.len() as u64);
         }
-        Ok(())
+        Ok(tail)
     }
 }

@@ -11,6 +11,7 @@ mod map;
 mod marks;
 #[cfg(test)]
 mod rows;
+mod writes;
 
 pub use file_machine::{FileStateMachine, SnapshotMetadata};
 pub use machine::StateMachine;

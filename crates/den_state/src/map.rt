@@ -12,7 +12,9 @@ ghost use Rattle.den_state.specs.Cleanup.{cleaned_map};
 ghost use Rattle.den_state.specs.Scan.{keys_in};
 ghost use Rattle.den_state.specs.Fold.{carried};
 ghost use Rattle.den_state.specs.Journal.{expiry_of, recorded};
+ghost use Rattle.den_state.specs.Written.{IsOver, value_over};
 
+use crate::writes::Writes;
 use den_codec::{Blob, Command, Entry, Held, JournalRecord, KvEntry, LogId, Positive, Rows};
 use den_lease::ByteMap;
 use std::alloc::{AllocError, Global};
@@ -103,20 +105,40 @@ impl Map {
         self.expiries.len()
     }
 
-    // Whether the key has the expected value, or is absent where none is expected.
-    fn has(&self, key: &Blob, expected: &Option<Blob>) -> bool
-        ensures { result ≡ option_eq (pointwise nat_eq) expected.now (value_at (part_of self.now 0) key.now) }
+    /// No writes, over which the map is as it stands.
+    pub fn unwritten(&self, alloc: Global) -> Writes
+        ensures { IsOver result self.now self.now }
     {
-        match (expected, self.get(key.as_slice())) {
+        // A walk over the pairs says that their keys are sorted.
+        let _walk = self.pairs.iter();
+        Writes::none(alloc)
+    }
+
+    // The value at the key after the writes.
+    fn get_over<'a>(&'a self, writes: &'a Writes, key: &[u8]) -> Option<&'a Blob>
+        ensures { option_map (λ b. b.now) result ≡ value_over writes.now self.now key.now }
+    {
+        match writes.get(key) {
+            None => self.get(key),
+            Some(None) => None,
+            Some(Some(value)) => Some(value),
+        }
+    }
+
+    // Whether the key has the expected value after the writes, or is absent where none is expected.
+    fn has(&self, writes: &Writes, key: &Blob, expected: &Option<Blob>) -> bool
+        ensures { result ≡ option_eq (pointwise nat_eq) expected.now (value_over writes.now self.now key.now) }
+    {
+        match (expected, self.get_over(writes, key.as_slice())) {
             (None, None) => true,
             (Some(expected), Some(value)) => expected.as_slice() == value.as_slice(),
             _ => false,
         }
     }
 
-    /// The record of an entry: a swap's is its outcome.
-    pub fn record_of(&self, entry: &Entry) -> Result<JournalRecord, AllocError>
-        ensures { IfOk result (λ r. r ≡ recorded self.now entry.now) }
+    /// The record of an entry after the writes: a swap's is its outcome.
+    pub fn record_of(&self, writes: &Writes, entry: &Entry) -> Result<JournalRecord, AllocError>
+        ensures { IfOk result (λ r. (s : MapState) → IsOver writes.now self.now s → r ≡ recorded s entry.now) }
     {
         let index = Positive::of(entry.index());
         let term = entry.term();
@@ -143,7 +165,7 @@ impl Map {
                 expected,
                 value,
             } => {
-                if self.has(key, expected) {
+                if self.has(writes, key, expected) {
                     JournalRecord::Insert {
                         index,
                         term,

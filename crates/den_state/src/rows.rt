@@ -1,10 +1,10 @@
 //! Worked rows: swaps, refusals, a cleanup, and random chunks beside a plain list of pairs.
 ghost use Rattle.std.specs.Prelude.{◌≡◌, [], IfSome, IfOk, OnOk};
-ghost use Rattle.den_state.specs.Machine.{IsReady, Keeps, Rests};
+ghost use Rattle.den_state.specs.Machine.{IsReady, Keeps};
 
 use crate::{FileStateMachine, StateMachine};
 use den_codec::{ApplyResult, Blob, Command, Entry, Error, LeaseConfig, LogId, Rows};
-use den_disk::{Disk, MemDisk};
+use den_disk::{Disk, Family, MemDisk, Part, Place};
 use den_lease::DefaultLease;
 use std::alloc::Global;
 use std::test::Fail;
@@ -16,6 +16,19 @@ const CONFIG: LeaseConfig = LeaseConfig {
 };
 
 const FIRST_KEY: u8 = b'a';
+
+const SLOT: Place = Place {
+    family: Family::State,
+    part: Part::A,
+};
+
+// A region of one Noop of index 1 and term 1. Its record has 41 bytes: index, term, opcode, key, value and expiry.
+const NOOP_REGION: &[u8] =
+    b"\x01\0\0\0\0\0\0\0\x32\x03\0\0\0\0\0\0\0\x01\0\0\0\0\0\0\0\x01\0\0\0\0\0\0\0\x01\0\0\0\0\0\0\0\0\0\0\0\0\0\0\0\0\0\0\0\0\0\0\0\0\0";
+
+// A region of one Insert of index 2 and term 1, of b at the key a: a record of 43 bytes.
+const INSERT_REGION: &[u8] =
+    b"\x01\0\0\0\0\0\0\0\x34\x03\0\0\0\0\0\0\0\x01\0\0\0\0\0\0\0\x02\0\0\0\0\0\0\0\x01\x01\0\0\0\0\0\0\0\x01a\0\0\0\0\0\0\0\x01b\0\0\0\0\0\0\0\0";
 
 // What an entry does, where keys and values are single bytes.
 #[derive(Clone, Copy, Debug)]
@@ -92,7 +105,7 @@ struct Bench {
 impl Bench {
     fn open(alloc: Global, mut disk: MemDisk, leased: bool) -> Result<Bench, Fail>
         ensures ready { IfOk result (λ b. IsReady b.machine) }
-        ensures rests { IfOk result (λ b. Rests b.machine (⟦<MemDisk as Disk>⟧.content b.disk)) }
+        ensures keeps { IfOk result (λ b. Keeps b.machine (⟦<MemDisk as Disk>⟧.content b.disk)) }
     {
         let machine = FileStateMachine::new(alloc, &mut disk, lease_of(alloc, leased))?;
         Ok(Bench {
@@ -105,7 +118,7 @@ impl Bench {
     // Opened anew after a crash, with a lease where it had one.
     fn crashed(self, choice: u64) -> Result<Bench, Fail>
         ensures ready { IfOk result (λ b. IsReady b.machine) }
-        ensures rests { IfOk result (λ b. Rests b.machine (⟦<MemDisk as Disk>⟧.content b.disk)) }
+        ensures keeps { IfOk result (λ b. Keeps b.machine (⟦<MemDisk as Disk>⟧.content b.disk)) }
     {
         let Bench {
             alloc,
@@ -119,9 +132,9 @@ impl Bench {
     // A crash after each tenth turn.
     fn rested(self, turn: u64) -> Result<Bench, Fail>
         requires ready { IsReady self.machine }
-        requires rests { Rests self.machine (⟦<MemDisk as Disk>⟧.content self.disk) }
+        requires keeps { Keeps self.machine (⟦<MemDisk as Disk>⟧.content self.disk) }
         ensures ready { IfOk result (λ b. IsReady b.machine) }
-        ensures rests { IfOk result (λ b. Rests b.machine (⟦<MemDisk as Disk>⟧.content b.disk)) }
+        ensures keeps { IfOk result (λ b. Keeps b.machine (⟦<MemDisk as Disk>⟧.content b.disk)) }
     {
         if turn % 10 == 0 {
             return self.crashed(turn / 10 % 3);
@@ -131,9 +144,9 @@ impl Bench {
 
     fn apply(&mut self, writes: &[(u64, Write)]) -> Result<Rows<ApplyResult>, Fail>
         requires ready { IsReady self.old.machine }
-        requires rests { Rests self.old.machine (⟦<MemDisk as Disk>⟧.content self.old.disk) }
+        requires keeps { Keeps self.old.machine (⟦<MemDisk as Disk>⟧.content self.old.disk) }
         ensures ready { OnOk result (IsReady self.new.machine) }
-        ensures rests { OnOk result (Rests self.new.machine (⟦<MemDisk as Disk>⟧.content self.new.disk)) }
+        ensures keeps { OnOk result (Keeps self.new.machine (⟦<MemDisk as Disk>⟧.content self.new.disk)) }
     {
         let chunk = entries_of(self.alloc, writes)?;
         Ok(self.machine.apply_chunk(&mut self.disk, chunk.as_slice())?)
@@ -142,7 +155,7 @@ impl Bench {
     // Why these entries are refused.
     fn refusal(&mut self, writes: &[(u64, Write)]) -> Result<Option<Error>, Fail>
         requires ready { IsReady self.old.machine }
-        requires rests { Rests self.old.machine (⟦<MemDisk as Disk>⟧.content self.old.disk) }
+        requires keeps { Keeps self.old.machine (⟦<MemDisk as Disk>⟧.content self.old.disk) }
     {
         let chunk = entries_of(self.alloc, writes)?;
         Ok(
@@ -150,6 +163,20 @@ impl Bench {
                 .apply_chunk(&mut self.disk, chunk.as_slice())
                 .err(),
         )
+    }
+
+    // Moves the applied mark, in memory alone, and never down.
+    fn move_mark(&mut self, index: u64)
+        requires ready { IsReady self.old.machine }
+        requires keeps { Keeps self.old.machine (⟦<MemDisk as Disk>⟧.content self.old.disk) }
+        ensures ready { IsReady self.new.machine }
+        ensures keeps { Keeps self.new.machine (⟦<MemDisk as Disk>⟧.content self.new.disk) }
+    {
+        let last_applied = LogId {
+            index: index.max(self.last_applied().index),
+            term: 1,
+        };
+        StateMachine::<MemDisk>::update_last_applied(&mut self.machine, last_applied);
     }
 
     fn clean_up(&mut self, now: u64) -> Result<Rows<Blob>, Fail>
@@ -169,7 +196,9 @@ impl Bench {
         StateMachine::<MemDisk>::len(&self.machine)
     }
 
-    fn last_applied(&self) -> LogId {
+    fn last_applied(&self) -> LogId
+        ensures { result ≡ self.now.machine.map.mark }
+    {
         StateMachine::<MemDisk>::last_applied(&self.machine)
     }
 
@@ -345,6 +374,54 @@ fn refuses_a_repeated_index(rt: HostRuntime) -> Result<(), Fail> {
     ])?;
     assert_eq!(rt; refusal, Some(Error::UnorderedChunk { index: 2 }));
     assert_eq!(rt; bench.len(), 0);
+    Ok(())
+}
+
+#[test]
+fn applies_behind_a_mark_that_is_not_stored(rt: HostRuntime) -> Result<(), Fail> {
+    let alloc = rt.alloc();
+    let mut bench = Bench::open(alloc, MemDisk::new(alloc), false)?;
+    bench.apply(&[(1, Write::Insert(b'a', b'b'))])?;
+    bench.move_mark(5);
+    let bench = bench.crashed(0)?;
+    assert_eq!(rt; bench.last_applied(), LogId { index: 1, term: 1 });
+    let mut bench = bench;
+    bench.move_mark(5);
+    let results = bench.apply(&[(6, Write::Insert(b'b', b'c'))])?;
+    let wanted = [ApplyResult {
+        index: 6,
+        succeeded: true,
+    }];
+    assert_eq!(rt; results.as_slice(), wanted.as_slice());
+    let bench = bench.crashed(0)?;
+    assert!(rt; bench.has(b'a', Some(b'b')) && bench.has(b'b', Some(b'c')));
+    assert_eq!(rt; bench.last_applied(), LogId { index: 6, term: 1 });
+    Ok(())
+}
+
+#[test]
+fn refuses_an_index_below_a_mark_that_is_not_stored(rt: HostRuntime) -> Result<(), Fail> {
+    let alloc = rt.alloc();
+    let mut bench = Bench::open(alloc, MemDisk::new(alloc), false)?;
+    bench.move_mark(5);
+    let refusal = bench.refusal(&[(5, Write::Insert(b'a', b'b'))])?;
+    assert_eq!(rt; refusal, Some(Error::UnorderedChunk { index: 5 }));
+    Ok(())
+}
+
+// Each chunk of one entry is a region of its record, a byte and a count in front of it, and a gate and a length in front
+// of that: 41 and 43 bytes in 59 and 61, and then a closed gate.
+#[test]
+fn writes_a_region_of_one_record(rt: HostRuntime) -> Result<(), Fail> {
+    let alloc = rt.alloc();
+    let mut bench = Bench::open(alloc, MemDisk::new(alloc), false)?;
+    bench.apply(&[(1, Write::Noop)])?;
+    assert_eq!(rt; bench.disk.get(SLOT).get(..59), Some(NOOP_REGION));
+    assert_eq!(rt; bench.disk.get(SLOT).get(59), Some(&0));
+    bench.apply(&[(2, Write::Insert(b'a', b'b'))])?;
+    assert_eq!(rt; bench.disk.get(SLOT).get(..59), Some(NOOP_REGION));
+    assert_eq!(rt; bench.disk.get(SLOT).get(59..120), Some(INSERT_REGION));
+    assert_eq!(rt; bench.disk.get(SLOT).get(120), Some(&0));
     Ok(())
 }
 

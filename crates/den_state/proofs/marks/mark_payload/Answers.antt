@@ -1,4 +1,5 @@
 use Rattle.den_state.proofs.Payloads.{mark_means}
+use Rattle.den_state.proofs.Tails.{mark_counts}
 use Rattle.den_state.proofs.Weighing.{light_mark}
 use Rattle.den_state.proofs.marks.mark_payload.Goals as goal
 
@@ -7,3 +8,6 @@ returns-clause-means c = λ m le. mark_means m c.args.mark.index c.args.mark.ter
 
 pub returns-clause-long : goal.returns-clause-long
 returns-clause-long c = light_mark c.args.mark.index c.args.mark.term c.new-payload.result.items c.write.new.out.items c.new-payload.ensures.items c.in_ok-write.ensures.ok
+
+pub returns-clause-counts : goal.returns-clause-counts
+returns-clause-counts c = λ tail. mark_counts tail c.args.mark.index c.args.mark.term c.new-payload.result.items c.write.new.out.items c.new-payload.ensures.items c.in_ok-write.ensures.ok c.in_ok-write.ensures.fits

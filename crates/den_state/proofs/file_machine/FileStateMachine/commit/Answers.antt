@@ -1,11 +1,15 @@
-use Rattle.std.proofs.Common.{◌≡◌, ap, sym, subst, ◌∙◌}
+use Rattle.std.proofs.Common.{◌≡◌, ◌+◌, ◌-◌, ◌^◌, min, length, ap, sym, subst, ◌∙◌}
 use Rattle.std.proofs.lemmas.Result.{err_from_is_err_and}
 use Rattle.den_disk.specs.declared.place.Family.TheVariants.{State}
-use Rattle.den_model.specs.MapState.{map_after_payload}
+use Rattle.den_model.specs.MapState.{map_applied_all, map_after_payload}
+use Rattle.den_model.specs.Reading.{state_region_in}
 use Rattle.den_model.specs.Sizes.{entries_size}
+use Rattle.den_gate.specs.declared.gate.GateFile.{GateFile}
+use Rattle.den_gate.specs.Gate.{payloads}
 use Rattle.den_state.specs.declared.file_machine.FileStateMachine.{FileStateMachine}
 use Rattle.den_state.specs.Machine.{Lies, stored_map}
 use Rattle.den_state.proofs.Resting.{held_still, images_still}
+use Rattle.den_state.proofs.Tails.{tail_appended, chunk_counts}
 use Rattle.den_state.proofs.Weighing.{weight_appended, light_payload}
 use Rattle.den_state.proofs.file_machine.FileStateMachine.commit.Goals as goal
 
@@ -24,16 +28,24 @@ returns-in_err-append-clause-heavy g c =
 
 pub returns-clause-weight : goal.returns-clause-weight
 returns-clause-weight g c =
-    weight_appended c.args.self.now.map c.args.chunk.now c.deref.result.now c.args.self.now.gate.end _ (c.deref.ensures.value ∙ c.in_ok-journaled.ensures.payload) c.in_ok-append.ensures.end
+    weight_appended c.args.self.now.map c.args.chunk.now c.deref.result.now c.args.self.now.gate.end _ (c.deref.ensures.value ∙ c.in_ok-journaled.ensures.payload)
+    (ap (λ (gate : GateFile). gate.end) c.take_on.ensures.gate ∙ c.in_ok-append.ensures.end)
 
 pub returns-clause-rests : goal.returns-clause-rests
 returns-clause-rests g c = λ tells.
     let s = c.args.self.now in
     let k = c.requires.keeps tells in
-    let map : c.append.new.self.map ≡ c.journal.new.self = ap (λ (m : FileStateMachine). m.map) c.append.ensures.rest in
-    let after = ap (map_after_payload (stored_map s)) c.deref.ensures.value ∙ c.in_ok-journaled.ensures.means s.stored k.below c.requires.some in
-    let files = c.in_ok-append.ensures.lies tells (stored_map s) c.journal.new.self k.files after in
+    let content = g.D.Disk.content c.append.new.disk in
+    let kept : c.append.new.self.map ≡ s.map = ap (λ (m : FileStateMachine). m.map) c.append.ensures.rest in
+    let map : c.take_on.new.self.map ≡ map_applied_all s.map c.args.chunk.now = c.in_ok-take_on.ensures.map ∙ ap (λ m. map_applied_all m c.args.chunk.now) kept in
+    let tail : c.take_on.new.self.tail ≡ min (s.tail + length c.args.chunk.now) (2 ^ 64 - 1) = c.in_ok-take_on.ensures.tail ∙ ap (λ (m : FileStateMachine). min (m.tail + length c.args.chunk.now) (2 ^ 64 - 1)) c.append.ensures.rest in
+    let word = c.deref.ensures.value in
+    let after = ap (map_after_payload (stored_map s)) word ∙ c.in_ok-journaled.ensures.means s.stored k.below c.requires.some in
+    let files = c.in_ok-append.ensures.lies tells (stored_map s) (map_applied_all s.map c.args.chunk.now) k.files after in
     record {
-      files = subst (λ m. Lies c.append.new.self.gate m (g.D.Disk.content c.append.new.disk)) (sym map) files;
-      stored = c.mark-self.ensures;
+      files = subst (λ (gate : GateFile). Lies gate c.take_on.new.self.map content) (sym c.take_on.ensures.gate) (subst (λ m. Lies c.append.new.self.gate m content) (sym map) files);
+      stored = c.in_ok-take_on.ensures.stored;
+      tail = tail_appended (payloads s.gate (g.D.Disk.content c.args.disk.now).reading) _ c.deref.result.now s.tail _
+          (ap (λ (gate : GateFile). payloads gate content.reading) c.take_on.ensures.gate ∙ c.in_ok-append.ensures.appended tells) k.tail
+          (chunk_counts s.map c.args.chunk.now s.tail _ c.deref.result.now (ap state_region_in word ∙ c.in_ok-journaled.ensures.reads) tail);
     }

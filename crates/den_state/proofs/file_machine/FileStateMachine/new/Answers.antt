@@ -14,7 +14,7 @@ returns-in-Ok-add_list-clause-opened g c = λ tells.
     let content = g.D.Disk.content c.load.new.disk in
     opened_as c.in-Ok.gate (g.D.Disk.content c.args.disk.now) content (Ok c.add_list.new.self) loaded.family (loaded.at_rest tells) (loaded.current tells) (loaded.spares tells)
     (list_gives c.in-Ok.gate content c.at-map.result c.in-Ok-regions.list c.as_slice.result.now (Ok c.add_list.new.self) c.at-map.ensures c.as_slice.ensures (c.in-Ok-regions.ensures.payloads still)
-    (loaded.at_rest tells) c.in-Ok-add_list.ensures)
+    (loaded.at_rest tells) c.in-Ok-add_list.ensures.map)
 
 pub returns-clause-refused : goal.returns-clause-refused
 returns-clause-refused g c =
@@ -27,7 +27,7 @@ returns-clause-refused g c =
       loaded.slot tells,
       opened_as c.in-Ok.gate (g.D.Disk.content c.args.disk.now) content (Err offset) loaded.family (loaded.at_rest tells) (loaded.current tells) (loaded.spares tells)
           (list_gives c.in-Ok.gate content c.at-map.result c.in-Ok-regions.list c.as_slice.result.now (Err offset) c.at-map.ensures c.as_slice.ensures (c.in-Ok-regions.ensures.payloads still)
-          (loaded.at_rest tells) (λ small. rw c.in-Err-Unlawful.field-0-is at (c.in-Err-Unlawful.ensures small))),
+          (loaded.at_rest tells) (λ small. rw c.in-Err-Unlawful.field-0-is at (c.in-Err-Unlawful.ensures.map small))),
     ))
 
 pub returns-in-Ok-add_list-clause-weight : goal.returns-in-Ok-add_list-clause-weight

@@ -1,7 +1,7 @@
 use Rattle.den_disk.specs.declared.place.Family.TheVariants.{State}
 use Rattle.den_state.specs.Machine.{stored_map}
 use Rattle.den_state.proofs.Resting.{held_still, images_still}
-use Rattle.den_state.proofs.file_machine.FileStateMachine.apply.Goals as goal
+use Rattle.den_state.proofs.file_machine.FileStateMachineStateMachine.apply_chunk.Goals as goal
 
 pub returns-in-Some-clause-own : goal.returns-in-Some-clause-own
 returns-in-Some-clause-own g c = λ tells.
