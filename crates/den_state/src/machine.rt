@@ -250,13 +250,16 @@ pub trait StateMachine<D: Disk>: Drop {
     /// Only its own files count.
     ghost rests_own: { (s : Self) (old new : Content) → SparesOwn state_family old new → rests s old → rests s new };
 
+    /// The same with the stored mark.
     ghost keeps_own: { (s : Self) (old new : Content) → SparesOwn state_family old new → keeps s old → keeps s new };
 
+    /// The same of what files give.
     ghost holds_own: { (one other : Files) → SameOf state_family one other → holds other ≡ holds one };
 
     /// Files that lie as it left them give its map, whatever a crash does to what is pending.
     ghost rests_hold: { (s : Self) (c : Content) (files : Files) → ready s → rests s c → IsImage c files → holds files ≡ Some (map s) };
 
+    /// The same with the stored mark.
     ghost keeps_hold: { (s : Self) (c : Content) (files : Files) → ready s → keeps s c → IsImage c files → holds files ≡ Some (record (map s) { mark = stored s }) };
 
     /// What lies as it left it lies so with its stored mark, which is the applied one.
