@@ -1,6 +1,6 @@
 #!/usr/bin/env python3
 """Tries the built server on real files, where no proof reaches: fifty kills in the midst of its writes, garbage, and disks
-that do not take a write. Says what it did, and ends with 1 where a put that was answered is lost or a status is another.
+that do not take a write, and a word that is no text. Says what it did, and ends with 1 where a put that was answered is lost or a status is another.
 
 A kill leaves what the operating system was handed, synced or not: it shows the order of writes and replies, and the opening
 of what stands there, and not that a sync was made.
@@ -25,6 +25,7 @@ BUILT = os.path.join(TOP, "crates", "den_program", "out", "den_program")
 KILLS, FOLDERS, PUTS, LIMIT = 50, 5, 1000, 120
 WRITTEN = bytes.fromhex("0100000001" "01")
 NOBODY = 65534
+USAGE = b"den_server: usage: den_server FOLDER [--config FILE] [--listen PORT] [--drive N]\n"
 
 
 def number(n):
@@ -235,6 +236,12 @@ def file_in_place(program, room):
     print("real files: a file in the folder's place is a storage fault, and stays as it is")
 
 
+def not_text(program):
+    """A word that is no text names no folder."""
+    wants("a word that is no text", run(program, b"\xff", []), 2, USAGE)
+    print("real files: a word that is no text is a faulty command line")
+
+
 def main():
     built = sys.argv[1] if len(sys.argv) > 1 else BUILT
     if not os.path.isfile(built):
@@ -253,6 +260,7 @@ def main():
         unwritable(program, room)
         full(program, room)
         file_in_place(program, room)
+        not_text(program)
     finally:
         shutil.rmtree(room, ignore_errors=True)
 
