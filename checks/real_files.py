@@ -1,6 +1,7 @@
 #!/usr/bin/env python3
-"""Tries the built server on real files, where no proof reaches: fifty kills in the midst of its writes, garbage, and disks
-that do not take a write, and a word that is no text. Says what it did, and ends with 1 where a put that was answered is lost or a status is another.
+"""Tries the built server on real files, where no proof reaches: fifty kills in the midst of its writes, garbage, disks that
+do not take a write, and a word that is no text. Says what it did, and ends with 1 where a put that was answered is lost or
+a status is another.
 
 A kill leaves what the operating system was handed, synced or not: it shows the order of writes and replies, and the opening
 of what stands there, and not that a sync was made.
