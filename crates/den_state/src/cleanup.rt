@@ -9,15 +9,16 @@ ghost use Rattle.den_model.specs.Sizes.{store_rise};
 ghost use Rattle.den_model.specs.Table.{by_bytes};
 ghost use Rattle.den_codec.specs.Full.{IsHeavy};
 ghost use Rattle.den_lease.specs.Due.{due_keys, has_due};
+ghost use Rattle.den_map.specs.Cleanup.{cleaned_map};
+ghost use Rattle.den_map.specs.Tail.{tail_after_payload};
 ghost use Rattle.den_state.specs.Chunk.{Leaves};
-ghost use Rattle.den_state.specs.Cleanup.{cleaned_map, cleaned_where, removed_where};
+ghost use Rattle.den_state.specs.Cleanup.{cleaned_where, removed_where};
 ghost use Rattle.den_state.specs.Machine.{IsReady, Keeps, Rests, IsConfiguredAs, IsWriteRefusal, map_held, stored_map, state_weight};
-ghost use Rattle.den_state.specs.Tail.{tail_after_payload};
 
 use crate::FileStateMachine;
-use crate::map::Map;
 use den_codec::{Blob, Error, JournalRecord, Positive, Rows, write_records};
 use den_disk::Disk;
+use den_map::Map;
 use std::alloc::{AllocError, Global};
 
 // What a cleanup removes, and the word of its region.

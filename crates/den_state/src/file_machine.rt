@@ -10,19 +10,19 @@ ghost use Rattle.den_model.specs.Sizes.{entries_size, family_size, store_rise};
 ghost use Rattle.den_model.specs.Spelling.{state_region_word};
 ghost use Rattle.den_codec.specs.Full.{IsHeavy};
 ghost use Rattle.den_gate.specs.Gate.{payloads, IsAtRest, IsCurrent};
-ghost use Rattle.den_state.specs.Chunk.{out_of_order, lacks_lease, IsChunkRefusal, LeavesOrEnds};
-ghost use Rattle.den_state.specs.Journal.{all_recorded};
+ghost use Rattle.den_map.specs.Journal.{all_recorded};
+ghost use Rattle.den_map.specs.Leases.{lacks_lease};
+ghost use Rattle.den_map.specs.Order.{out_of_order};
+ghost use Rattle.den_state.specs.Chunk.{IsChunkRefusal, LeavesOrEnds};
 ghost use Rattle.den_state.specs.Machine.{HasShortTail, IsReady, Lies, Keeps, Rests, IsConfiguredAs, IsSetAs, IsDurable, IsOpeningRefusal, IsWriteRefusal, OnUntouched, OnWant, journaled, map_held, stored_map, state_error, state_weight};
 ghost use Rattle.den_state.specs.Laws.{rests_spared, keeps_spared, keeps_rested, keeps_settled, held_own, lies_image, rests_image};
 
 use crate::StateMachine;
-use crate::chunk::{asks_lease, out_of_order};
-use crate::fold::ListError;
-use crate::map::Map;
 use den_codec::{ApplyResult, Blob, Entry, Error, JournalRecord, LogId, Rows, ScanResult};
 use den_disk::{Disk, Family, Place};
 use den_gate::{GateError, GateFile};
 use den_lease::DefaultLease;
+use den_map::{ListError, Map, asks_lease, out_of_order};
 use std::alloc::{AllocError, Global};
 
 /// A map in memory, whose journal is the gate file of the State family.

@@ -7,9 +7,9 @@ ghost use Rattle.den_disk.specs.Families.{SparesOthers, SparesImages, OldOrNew};
 ghost use Rattle.den_model.specs.MapState.{MapState, map_after_payload};
 ghost use Rattle.den_model.specs.Sizes.{store_rise};
 ghost use Rattle.den_codec.specs.Full.{IsHeavy};
+ghost use Rattle.den_map.specs.Tail.{tail_after_payload};
 ghost use Rattle.den_state.specs.Chunk.{Leaves};
 ghost use Rattle.den_state.specs.Machine.{IsReady, Keeps, Rests, IsConfiguredAs, IsWriteRefusal, map_held, stored_map, state_weight};
-ghost use Rattle.den_state.specs.Tail.{tail_after_payload};
 
 use crate::FileStateMachine;
 use den_codec::{Error, LogId, StateRegion, Word};
