@@ -1,8 +1,8 @@
 //! A map keyed by bytes.
-ghost use Rattle.std.specs.Prelude.{◌≡◌, ℕ, List, [], Option, option_copied, OnOk, OnErr, is_some, length};
+ghost use Rattle.std.specs.Prelude.{◌≡◌, ℕ, List, [], Option, option_copied, OnOk, OnErr, length};
 ghost use Rattle.std.specs.List.Sorted.{IsStrictlySortedBy};
 ghost use Rattle.std.specs.Map.{keys_of};
-ghost use Rattle.den_model.specs.Table.{at, by_bytes, set, unset, is_held};
+ghost use Rattle.den_model.specs.Table.{at, by_bytes, set, unset};
 ghost use Rattle.den_lease.specs.Keyed.{keyed};
 
 use std::alloc::{AllocError, Global};
@@ -51,13 +51,6 @@ impl<V> ByteMap<V> {
         ensures { option_copied result ≡ at self.now key.now }
     {
         self.map.get(key)
-    }
-
-    /// Whether the key is held.
-    pub fn contains(&self, key: &[u8]) -> bool
-        ensures { result ≡ is_held self.now key.now }
-    {
-        self.map.contains_key(key)
     }
 }
 
