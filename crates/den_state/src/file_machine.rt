@@ -84,6 +84,7 @@ impl FileStateMachine {
         ensures synced { IsTrue (D.kind disk.old).tells → IsDurable result (D.content disk.new) }
         ensures opened { IsTrue (D.kind disk.old).tells → IfOk result (λ s. map_in (D.content disk.old).reading ≡ Ok s.map) }
         ensures ready { IfOk result IsReady }
+        ensures stored { IfOk result (λ s. s.stored ≡ s.map.mark) }
         ensures lease { IfOk result (λ s. s.leased ≡ is_some lease) }
         ensures metadata { IfOk result (λ s. s.metadata ≡ None) }
         ensures running { IfOk result (λ s. s.running ≡ true) }
