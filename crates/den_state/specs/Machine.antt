@@ -1,5 +1,5 @@
 -- What a state machine in files is, and why its calls are refused.
-use Rattle.std.specs.Prelude.{◌≡◌, ◌≤◌, ◌<◌, ℕ, Bool, false, IsTrue, List, [], ◌∷◌, Result, Ok, Err, Option}
+use Rattle.std.specs.Prelude.{◌≡◌, ◌≤◌, ◌<◌, ◌↔◌, ℕ, Bool, false, IsTrue, List, [], ◌∷◌, Result, Ok, Err, Option}
 use Rattle.den_disk.specs.declared.place.Family.TheVariants as family
 use Rattle.den_disk.specs.Place.{place_number}
 use Rattle.den_disk.specs.Files.{Files, Content}
@@ -79,7 +79,7 @@ pub record StaysAs {S : Type 0} (map : S → MapState) (stored : S → LogId) (l
   pub lease_same : leased new ≡ leased old
   pub weight_same : weight new ≡ weight old
   pub stays_short : short old → short new
-  pub stays_ready : ready old → ready new
+  pub stays_ready : ready old ↔ ready new
   pub stays_kept : (content : Content) → keeps old content → keeps new content
 
 -- one region of records for entries, and none for no entry

@@ -97,7 +97,7 @@ pub trait StateMachine<D: Disk>: Drop {
         ensures set { IsSetAs (running self.old) (said self.old) (running self.new) (said self.new) }
         ensures weight { weight self.new ≡ weight self.old }
         ensures short { short self.old → short self.new }
-        ensures ready { ready self.old → ready self.new }
+        ensures ready { ready self.old ↔ ready self.new }
         ensures keeps { (content : Content) → keeps self.old content → keeps self.new content };
 
     /// Moves the applied mark and the stored one. A crash inside leaves the old map with the old stored mark, or the
