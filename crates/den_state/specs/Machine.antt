@@ -9,7 +9,8 @@ use Rattle.den_gate.specs.declared.gate.GateFile.{GateFile}
 use Rattle.den_gate.specs.declared.error.GateError.{GateError}
 use Rattle.den_gate.specs.declared.error.GateError.TheVariants as gate_error
 use Rattle.den_gate.specs.Gate.{payloads, IsAtRest, IsCurrent}
-use Rattle.den_model.specs.declared.region.StateRegion.TheVariants.{Records}
+use Rattle.den_model.specs.declared.region.StateRegion.TheVariants.{Records, Mark}
+use Rattle.den_model.specs.declared.journal.JournalRecord.TheVariants.{Cleanup}
 use Rattle.den_model.specs.Entries.{LogEntry}
 use Rattle.den_model.specs.Spelling.{state_region_word}
 use Rattle.den_model.specs.Regions.{placed}
@@ -86,6 +87,13 @@ pub record StaysAs {S : Type 0} (map : S → MapState) (stored : S → LogId) (l
 abbrev pub journaled : MapState → List LogEntry → List (List ℕ)
 journaled s [] = []
 journaled s (e ∷ es) = state_region_word (Records (all_recorded s (e ∷ es))) ∷ []
+
+-- a region that moves the mark, and one of a cleanup's record
+abbrev pub mark_word : LogId → List ℕ
+mark_word mark = state_region_word (Mark mark.index mark.term)
+
+abbrev pub cleanup_word : ℕ → List ℕ
+cleanup_word moment = state_region_word (Records (Cleanup moment ∷ []))
 
 -- a refusal of the State family's gate file
 abbrev pub state_error : GateError → Error

@@ -123,7 +123,7 @@ pub trait StateMachine<D: Disk>: Drop {
         ensures heavy { IfErr result (IsHeavy (D.kind disk.old).limit (weight self.old + store_rise 0)) }
         ensures failed { IfErr result (Leaves ((self.new ≡ self.old) × (disk.new ≡ disk.old)) (ready self.new → ⊥)) };
 
-    /// Stores the applied mark.
+    /// Stores the applied mark. Where it is stored it writes nothing.
     fn save_hard_state(&mut self, disk: &mut D) -> Result<(), Error>
         requires ready { ready self.old }
         requires keeps { IsTrue (D.kind disk.old).tells → keeps self.old (D.content disk.old) }
@@ -133,6 +133,7 @@ pub trait StateMachine<D: Disk>: Drop {
         ensures others { IsTrue (D.kind disk.old).tells → SparesImages state_family (D.images disk.old) (D.images disk.new) (D.moment disk.old) (D.moment disk.new) }
         ensures spares { IsTrue (D.kind disk.old).tells → SparesOthers state_family (D.content disk.old) (D.content disk.new) }
         ensures map { OnOk result (map self.new ≡ map self.old) }
+        ensures nothing { stored self.old ≡ (map self.old).mark → (self.new ≡ self.old) × (disk.new ≡ disk.old) }
         ensures stored { OnOk result (stored self.new ≡ (map self.old).mark) }
         ensures lease { leased self.new ≡ leased self.old }
         ensures set { IsSetAs (running self.old) (said self.old) (running self.new) (said self.new) }
@@ -144,7 +145,7 @@ pub trait StateMachine<D: Disk>: Drop {
         ensures heavy { IfErr result (IsHeavy (D.kind disk.old).limit (weight self.old + store_rise 0)) }
         ensures failed { IfErr result (Leaves ((self.new ≡ self.old) × (disk.new ≡ disk.old)) (ready self.new → ⊥)) };
 
-    /// Stores the applied mark, and lets the state machine go.
+    /// Stores the applied mark, and lets the state machine go. Where it is stored it writes nothing.
     fn close(self, disk: &mut D) -> Result<(), Error>
         requires ready { ready self }
         requires keeps { IsTrue (D.kind disk.old).tells → keeps self (D.content disk.old) }
@@ -154,6 +155,7 @@ pub trait StateMachine<D: Disk>: Drop {
         ensures others { IsTrue (D.kind disk.old).tells → SparesImages state_family (D.images disk.old) (D.images disk.new) (D.moment disk.old) (D.moment disk.new) }
         ensures spares { IsTrue (D.kind disk.old).tells → SparesOthers state_family (D.content disk.old) (D.content disk.new) }
         ensures held { OnOk result (IsTrue (D.kind disk.old).tells → (files : Files) → D.images disk.new (D.moment disk.new) files → holds files ≡ Some (map self)) }
+        ensures nothing { stored self ≡ (map self).mark → disk.new ≡ disk.old }
         ensures refused { IfErr result (IsWriteRefusal (Unit {0}) (Rose (D.faults disk.old) (D.faults disk.new)) (D.kind disk.old).limit) }
         ensures heavy { IfErr result (IsHeavy (D.kind disk.old).limit (weight self + store_rise 0)) };
 

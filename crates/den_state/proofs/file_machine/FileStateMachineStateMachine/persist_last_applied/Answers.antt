@@ -7,7 +7,7 @@ use Rattle.den_state.specs.Machine.{Lies, stored_map}
 use Rattle.den_state.specs.Tail.{tail_after_payload}
 use Rattle.den_state.proofs.Tails.{tail_appended}
 use Rattle.den_state.proofs.Resting.{held_still, images_still}
-use Rattle.den_state.proofs.file_machine.FileStateMachine.store_mark.Goals as goal
+use Rattle.den_state.proofs.file_machine.FileStateMachineStateMachine.persist_last_applied.Goals as goal
 
 pub returns-in_err-payload-clause-own : goal.returns-in_err-payload-clause-own
 returns-in_err-payload-clause-own g c = λ tells.
