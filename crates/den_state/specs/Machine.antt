@@ -9,6 +9,7 @@ use Rattle.den_gate.specs.declared.gate.GateFile.{GateFile}
 use Rattle.den_gate.specs.declared.error.GateError.{GateError}
 use Rattle.den_gate.specs.declared.error.GateError.TheVariants as gate_error
 use Rattle.den_gate.specs.Gate.{payloads, IsAtRest, IsCurrent}
+use Rattle.den_gate.specs.Slot.{IsShort, room_for}
 use Rattle.den_model.specs.declared.region.StateRegion.TheVariants.{Records, Mark}
 use Rattle.den_model.specs.declared.journal.JournalRecord.TheVariants.{Cleanup}
 use Rattle.den_model.specs.Entries.{LogEntry}
@@ -132,3 +133,9 @@ IsWriteRefusal memory rose most error.OutOfMemory = memory
 IsWriteRefusal memory rose most error.StorageIoError = rose
 IsWriteRefusal memory rose most (error.DiskFull needed limit) = (limit < needed) × (limit ≡ most)
 IsWriteRefusal memory rose most _ = ⊥
+
+-- where the disk is full: the room that a region of so many bytes would need behind the others, which its slot has not
+-- where the disk tells
+abbrev pub IsFullFor : FileStateMachine → Bool → Content → ℕ → Error → Type 0
+IsFullFor s tells c size (error.DiskFull needed limit) = (needed ≡ room_for (state_weight s) size) × (IsTrue tells → IsShort (c.reading s.gate.slot) (state_weight s) size)
+IsFullFor s tells c size _ = Unit {0}

@@ -17,7 +17,7 @@ ghost use Rattle.std.specs.List.Sorted.{IsStrictlySortedBy};
 ghost use Rattle.den_state.specs.Chunk.{out_of_order, lacks_lease, IsChunkRefusal, Leaves, LeavesOrEnds};
 ghost use Rattle.den_state.specs.Cleanup.{cleaned_where, removed_where};
 ghost use Rattle.den_state.specs.Journal.{all_recorded};
-ghost use Rattle.den_state.specs.Machine.{HasShortTail, IsReady, Lies, Keeps, Rests, IsConfiguredAs, IsSetAs, IsDurable, IsOpeningRefusal, IsWriteRefusal, OnUntouched, OnWant, cleanup_word, journaled, map_held, mark_word, stored_map, state_error, state_weight};
+ghost use Rattle.den_state.specs.Machine.{HasShortTail, IsReady, Lies, Keeps, Rests, IsConfiguredAs, IsSetAs, IsDurable, IsFullFor, IsOpeningRefusal, IsWriteRefusal, OnUntouched, OnWant, cleanup_word, journaled, map_held, mark_word, stored_map, state_error, state_weight};
 ghost use Rattle.den_state.specs.Laws.{rests_spared, keeps_spared, keeps_rested, keeps_settled, held_own, lies_image, rests_image};
 
 use crate::StateMachine;
@@ -154,6 +154,7 @@ impl FileStateMachine {
         ensures failed { OnErr result ((self.new).failed ≡ true) }
         ensures rest { self.new ≡ record self.old { gate = (self.new).gate; failed = (self.new).failed } }
         ensures refused { IfErr result (IsWriteRefusal ⊥ (Rose (D.faults disk.old) (D.faults disk.new)) (D.kind disk.old).limit) }
+        ensures full { IfErr result (IsFullFor self.old (D.kind disk.old).tells (D.content disk.old) (length payload.now)) }
         ensures heavy { IfErr result (λ e. (size : ℕ) → length payload.now ≤ 128 + 4 * size → IsHeavy (D.kind disk.old).limit (state_weight self.old + store_rise size) e) }
     {
         self.failed = true;
@@ -214,6 +215,7 @@ impl FileStateMachine {
         ensures want { IfErr result (OnWant (((self.new ≡ self.old) × (disk.new ≡ disk.old)) ⊎ (((self.new).failed ≡ true) × (IsTrue (D.kind disk.old).tells →
             payloads (self.new).gate (D.content disk.new).reading ≡ payloads (self.old).gate (D.content disk.old).reading ++ journaled (self.old).map chunk.now)))) }
         ensures refused { IfErr result (IsWriteRefusal (Unit {0}) (Rose (D.faults disk.old) (D.faults disk.new)) (D.kind disk.old).limit) }
+        ensures full { IfErr result (IsFullFor self.old (D.kind disk.old).tells (D.content disk.old) (length (state_region_word (Records (all_recorded (self.old).map chunk.now))))) }
         ensures heavy { IfErr result (IsHeavy (D.kind disk.old).limit (state_weight self.old + store_rise (entries_size chunk.now))) }
     {
         let journaled = self.map.journal(self.alloc, chunk)?;
@@ -286,6 +288,7 @@ impl<D: Disk> StateMachine<D> for FileStateMachine {
         ensures keeps { OnOk result (IsTrue (D.kind disk.old).tells → Keeps self.new (D.content disk.new)) }
         ensures rests { OnOk result (1 ≤ length chunk.now → IsTrue (D.kind disk.old).tells → Rests self.new (D.content disk.new)) }
         ensures refused { IfErr result (IsChunkRefusal (self.old).leased (Rose (D.faults disk.old) (D.faults disk.new)) (D.kind disk.old).limit (self.old).map.mark.index chunk.now) }
+        ensures full { IfErr result (IsFullFor self.old (D.kind disk.old).tells (D.content disk.old) (length (state_region_word (Records (all_recorded (self.old).map chunk.now))))) }
         ensures heavy { IfErr result (IsHeavy (D.kind disk.old).limit (state_weight self.old + store_rise (entries_size chunk.now))) }
         ensures failed { IfErr result (LeavesOrEnds ((self.new ≡ self.old) × (disk.new ≡ disk.old)) (IsReady self.new → ⊥)) }
         ensures untouched { IfErr result (OnUntouched ((self.new ≡ self.old) × (disk.new ≡ disk.old))) }
@@ -329,6 +332,7 @@ impl<D: Disk> StateMachine<D> for FileStateMachine {
         ensures ready { OnOk result (IsReady self.new) }
         ensures rests { OnOk result (IsTrue (D.kind disk.old).tells → Rests self.new (D.content disk.new)) }
         ensures refused { IfErr result (IsWriteRefusal (Unit {0}) (Rose (D.faults disk.old) (D.faults disk.new)) (D.kind disk.old).limit) }
+        ensures full { IfErr result (IsFullFor self.old (D.kind disk.old).tells (D.content disk.old) (length (mark_word last_applied))) }
         ensures heavy { IfErr result (IsHeavy (D.kind disk.old).limit (state_weight self.old + store_rise 0)) }
         ensures failed { IfErr result (Leaves ((self.new ≡ self.old) × (disk.new ≡ disk.old)) (IsReady self.new → ⊥)) }
         ensures slot { (self.new).gate.slot ≡ (self.old).gate.slot }
@@ -360,6 +364,7 @@ impl<D: Disk> StateMachine<D> for FileStateMachine {
         ensures ready { OnOk result (IsReady self.new) }
         ensures rests { OnOk result (IsTrue (D.kind disk.old).tells → Rests self.new (D.content disk.new)) }
         ensures refused { IfErr result (IsWriteRefusal (Unit {0}) (Rose (D.faults disk.old) (D.faults disk.new)) (D.kind disk.old).limit) }
+        ensures full { IfErr result (IsFullFor self.old (D.kind disk.old).tells (D.content disk.old) (length (mark_word (self.old).map.mark))) }
         ensures heavy { IfErr result (IsHeavy (D.kind disk.old).limit (state_weight self.old + store_rise 0)) }
         ensures failed { IfErr result (Leaves ((self.new ≡ self.old) × (disk.new ≡ disk.old)) (IsReady self.new → ⊥)) }
         ensures slot { (self.new).gate.slot ≡ (self.old).gate.slot }
@@ -384,6 +389,7 @@ impl<D: Disk> StateMachine<D> for FileStateMachine {
         ensures held { OnOk result (IsTrue (D.kind disk.old).tells → (files : Files) → D.images disk.new (D.moment disk.new) files → map_held files ≡ Some self.map) }
         ensures nothing { self.stored ≡ self.map.mark → disk.new ≡ disk.old }
         ensures refused { IfErr result (IsWriteRefusal (Unit {0}) (Rose (D.faults disk.old) (D.faults disk.new)) (D.kind disk.old).limit) }
+        ensures full { IfErr result (IsFullFor self (D.kind disk.old).tells (D.content disk.old) (length (mark_word self.map.mark))) }
         ensures heavy { IfErr result (IsHeavy (D.kind disk.old).limit (state_weight self + store_rise 0)) }
         ensures appended { OnOk result ((self.stored ≡ self.map.mark → ⊥) → IsTrue (D.kind disk.old).tells →
             payloads self.gate (D.content disk.new).reading ≡ payloads self.gate (D.content disk.old).reading ++ mark_word self.map.mark ∷ []) }
@@ -411,6 +417,7 @@ impl<D: Disk> StateMachine<D> for FileStateMachine {
         ensures ready { OnOk result (IsReady self.new) }
         ensures keeps { OnOk result (IsTrue (D.kind disk.old).tells → Keeps self.new (D.content disk.new)) }
         ensures refused { IfErr result (IsWriteRefusal (Unit {0}) (Rose (D.faults disk.old) (D.faults disk.new)) (D.kind disk.old).limit) }
+        ensures full { IfErr result (IsFullFor self.old (D.kind disk.old).tells (D.content disk.old) (length (cleanup_word (max now 1)))) }
         ensures heavy { IfErr result (IsHeavy (D.kind disk.old).limit (state_weight self.old + store_rise 0)) }
         ensures failed { IfErr result (Leaves ((self.new ≡ self.old) × (disk.new ≡ disk.old)) (IsReady self.new → ⊥)) }
         ensures slot { (self.new).gate.slot ≡ (self.old).gate.slot }
