@@ -40,7 +40,7 @@ abbrev pub HasShortTail : FileStateMachine → Type 0
 HasShortTail s = s.tail < 1000
 
 -- a gate file at rest, the one that the State family's head names, whose payloads give this map
-pub record Lies (gate : GateFile) (m : MapState) (c : Content) : Type 0 where
+pub record GivesMap (gate : GateFile) (m : MapState) (c : Content) : Type 0 where
   pub of_state : gate.slot.family ≡ family.State
   pub at_rest : IsAtRest gate c
   pub current : IsCurrent gate.slot c
@@ -53,13 +53,13 @@ stored_map s = record s.map { mark = s.stored }
 -- its files give its pairs and expiries with the stored mark, which is not above the applied one, and it knows how many
 -- records follow their last Begin region
 pub record Keeps (s : FileStateMachine) (c : Content) : Type 0 where
-  pub files : Lies s.gate (stored_map s) c
+  pub files : GivesMap s.gate (stored_map s) c
   pub below : s.stored.index ≤ s.map.mark.index
   pub tail : s.tail ≡ tail_from 0 (payloads s.gate c.reading)
 
 -- the same where its files give its map
 pub record Rests (s : FileStateMachine) (c : Content) : Type 0 where
-  pub files : Lies s.gate s.map c
+  pub files : GivesMap s.gate s.map c
   pub stored : s.stored ≡ s.map.mark
   pub tail : s.tail ≡ tail_from 0 (payloads s.gate c.reading)
 
@@ -71,10 +71,10 @@ pub record IsConfiguredAs (old new : FileStateMachine) : Type 0 where
 
 -- running flag and metadata are so
 pub record IsSetAs (running : Bool) (metadata : Option SnapshotMetadata) (new_running : Bool) (new_metadata : Option SnapshotMetadata) : Type 0 where
-  pub runs : new_running ≡ running
-  pub says : new_metadata ≡ metadata
+  pub running_is : new_running ≡ running
+  pub metadata_is : new_metadata ≡ metadata
 
--- map, marks, lease, weight, length and files are as they were
+-- map, marks, lease, weight, length and files are as they were, and it has failed only where it had
 pub record StaysAs {S : Type 0} (map : S → MapState) (stored : S → LogId) (leased : S → Bool) (weight : S → ℕ) (short : S → Type 0) (ready : S → Type 0) (keeps : S → Content → Type 0) (old new : S) : Type 0 where
   pub map_same : map new ≡ map old
   pub stored_same : stored new ≡ stored old
@@ -110,9 +110,9 @@ OnUntouched P error.FeatureNotEnabled = P
 OnUntouched P _ = Unit {0}
 
 -- a fact of want of memory
-abbrev pub OnWant : Type 0 → Error → Type 0
-OnWant P error.OutOfMemory = P
-OnWant P _ = Unit {0}
+abbrev pub OnOutOfMemory : Type 0 → Error → Type 0
+OnOutOfMemory P error.OutOfMemory = P
+OnOutOfMemory P _ = Unit {0}
 
 -- what may refuse an opening: want of memory, a fault of the disk, and files that give no map
 abbrev pub IsOpeningRefusal : Type 0 → Bool → Files → Error → Type 0

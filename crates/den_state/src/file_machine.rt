@@ -17,8 +17,8 @@ ghost use Rattle.std.specs.List.Sorted.{IsStrictlySortedBy};
 ghost use Rattle.den_state.specs.Chunk.{out_of_order, lacks_lease, IsChunkRefusal, Leaves, LeavesOrEnds};
 ghost use Rattle.den_state.specs.Cleanup.{cleaned_where, removed_where};
 ghost use Rattle.den_state.specs.Journal.{all_recorded};
-ghost use Rattle.den_state.specs.Machine.{HasShortTail, IsReady, Lies, Keeps, Rests, IsConfiguredAs, IsSetAs, IsDurable, IsFullFor, IsOpeningRefusal, IsWriteRefusal, OnUntouched, OnWant, cleanup_word, journaled, map_held, mark_word, stored_map, state_error, state_weight};
-ghost use Rattle.den_state.specs.Laws.{rests_spared, keeps_spared, keeps_rested, keeps_settled, held_own, lies_image, rests_image};
+ghost use Rattle.den_state.specs.Machine.{HasShortTail, IsReady, GivesMap, Keeps, Rests, IsConfiguredAs, IsSetAs, IsDurable, IsFullFor, IsOpeningRefusal, IsWriteRefusal, OnUntouched, OnOutOfMemory, cleanup_word, journaled, map_held, mark_word, stored_map, state_error, state_weight};
+ghost use Rattle.den_state.specs.Laws.{rests_spared, keeps_spared, keeps_rested, keeps_settled, held_own, map_image, rests_image};
 
 use crate::StateMachine;
 use crate::chunk::{asks_lease, out_of_order};
@@ -140,12 +140,12 @@ impl FileStateMachine {
         requires current { IsTrue (D.kind disk.old).tells → IsCurrent (self.old).gate.slot (D.content disk.old) }
         requires of_state { IsTrue (D.kind disk.old).tells → (self.old).gate.slot.family ≡ state_family }
         ensures disk { DiskGoesOn D.kind D.moment D.images D.faults disk.old disk.new }
-        ensures own { IsTrue (D.kind disk.old).tells → (before next : MapState) → Lies (self.old).gate before (D.content disk.old) → map_after_payload before payload.now ≡ Some next
+        ensures own { IsTrue (D.kind disk.old).tells → (before next : MapState) → GivesMap (self.old).gate before (D.content disk.old) → map_after_payload before payload.now ≡ Some next
             → OldOrNew map_held (D.images disk.new) (D.moment disk.old) (D.moment disk.new) before next }
         ensures others { IsTrue (D.kind disk.old).tells → SparesImages state_family (D.images disk.old) (D.images disk.new) (D.moment disk.old) (D.moment disk.new) }
         ensures spares { IsTrue (D.kind disk.old).tells → SparesOthers state_family (D.content disk.old) (D.content disk.new) }
-        ensures lies { OnOk result (IsTrue (D.kind disk.old).tells → (before next : MapState) → Lies (self.old).gate before (D.content disk.old) → map_after_payload before payload.now ≡ Some next
-            → Lies (self.new).gate next (D.content disk.new)) }
+        ensures gives { OnOk result (IsTrue (D.kind disk.old).tells → (before next : MapState) → GivesMap (self.old).gate before (D.content disk.old) → map_after_payload before payload.now ≡ Some next
+            → GivesMap (self.new).gate next (D.content disk.new)) }
         ensures appended { OnOk result (IsTrue (D.kind disk.old).tells →
             payloads (self.new).gate (D.content disk.new).reading ≡ payloads (self.old).gate (D.content disk.old).reading ++ payload.now ∷ []) }
         ensures slot { (self.new).gate.slot ≡ (self.old).gate.slot }
@@ -212,7 +212,7 @@ impl FileStateMachine {
         ensures same { IsConfiguredAs self.old self.new }
         ensures slot { (self.new).gate.slot ≡ (self.old).gate.slot }
         ensures failed { IfErr result (LeavesOrEnds ((self.new ≡ self.old) × (disk.new ≡ disk.old)) (IsReady self.new → ⊥)) }
-        ensures want { IfErr result (OnWant (((self.new ≡ self.old) × (disk.new ≡ disk.old)) ⊎ (((self.new).failed ≡ true) × (IsTrue (D.kind disk.old).tells →
+        ensures out_of_memory { IfErr result (OnOutOfMemory (((self.new ≡ self.old) × (disk.new ≡ disk.old)) ⊎ (((self.new).failed ≡ true) × (IsTrue (D.kind disk.old).tells →
             payloads (self.new).gate (D.content disk.new).reading ≡ payloads (self.old).gate (D.content disk.old).reading ++ journaled (self.old).map chunk.now)))) }
         ensures refused { IfErr result (IsWriteRefusal (Unit {0}) (Rose (D.faults disk.old) (D.faults disk.new)) (D.kind disk.old).limit) }
         ensures full { IfErr result (IsFullFor self.old (D.kind disk.old).tells (D.content disk.old) (length (state_region_word (Records (all_recorded (self.old).map chunk.now))))) }
@@ -238,7 +238,7 @@ impl<D: Disk> StateMachine<D> for FileStateMachine {
 
     ghost running = { λ s. s.running };
 
-    ghost said = { λ s. s.metadata };
+    ghost metadata = { λ s. s.metadata };
 
     ghost stored = { λ s. s.stored };
 
@@ -258,7 +258,7 @@ impl<D: Disk> StateMachine<D> for FileStateMachine {
 
     ghost rests_hold = { λ s c files ready rests image. rests_image s c files rests image };
 
-    ghost keeps_hold = { λ s c files ready keeps image. lies_image s.gate (stored_map s) c files keeps.files image };
+    ghost keeps_hold = { λ s c files ready keeps image. map_image s.gate (stored_map s) c files keeps.files image };
 
     ghost rests_keep = { λ s c rests. (keeps_rested s c rests, rests.stored) };
 
@@ -293,7 +293,7 @@ impl<D: Disk> StateMachine<D> for FileStateMachine {
         ensures failed { IfErr result (LeavesOrEnds ((self.new ≡ self.old) × (disk.new ≡ disk.old)) (IsReady self.new → ⊥)) }
         ensures untouched { IfErr result (OnUntouched ((self.new ≡ self.old) × (disk.new ≡ disk.old))) }
         ensures slot { (self.new).gate.slot ≡ (self.old).gate.slot }
-        ensures want { IfErr result (OnWant (((self.new ≡ self.old) × (disk.new ≡ disk.old)) ⊎ (((self.new).failed ≡ true) × (IsTrue (D.kind disk.old).tells →
+        ensures out_of_memory { IfErr result (OnOutOfMemory (((self.new ≡ self.old) × (disk.new ≡ disk.old)) ⊎ (((self.new).failed ≡ true) × (IsTrue (D.kind disk.old).tells →
             payloads (self.new).gate (D.content disk.new).reading ≡ payloads (self.old).gate (D.content disk.old).reading ++ journaled (self.old).map chunk.now)))) }
         ensures appended { OnOk result (IsTrue (D.kind disk.old).tells →
             payloads (self.new).gate (D.content disk.new).reading ≡ payloads (self.old).gate (D.content disk.old).reading ++ journaled (self.old).map chunk.now) }
@@ -468,12 +468,12 @@ impl<D: Disk> StateMachine<D> for FileStateMachine {
         self.metadata
     }
 
-    fn update_last_snapshot_metadata(&mut self, metadata: SnapshotMetadata) {
-        self.metadata = Some(metadata);
+    fn update_last_snapshot_metadata(&mut self, snapshot_metadata: SnapshotMetadata) {
+        self.metadata = Some(snapshot_metadata);
     }
 
-    fn persist_last_snapshot_metadata(&mut self, metadata: SnapshotMetadata) {
-        self.metadata = Some(metadata);
+    fn persist_last_snapshot_metadata(&mut self, snapshot_metadata: SnapshotMetadata) {
+        self.metadata = Some(snapshot_metadata);
     }
 
     fn len(&self) -> usize {

@@ -52,7 +52,7 @@ pub trait StateMachine<D: Disk>: Drop {
     ghost running: { Self → Bool };
 
     /// What was last said of a snapshot.
-    ghost said: { Self → Option SnapshotMetadata };
+    ghost metadata: { Self → Option SnapshotMetadata };
 
     /// A number of bytes: what its files and the calls since it was opened handed it, at most. A disk is told to be full
     /// only where four times the weight is above the limit of a file.
@@ -79,7 +79,7 @@ pub trait StateMachine<D: Disk>: Drop {
         ensures nothing { chunk.now ≡ [] → (self.new ≡ self.old) × (disk.new ≡ disk.old) }
         ensures stored { OnOk result (1 ≤ length chunk.now → stored self.new ≡ (map self.new).mark) }
         ensures lease { leased self.new ≡ leased self.old }
-        ensures set { IsSetAs (running self.old) (said self.old) (running self.new) (said self.new) }
+        ensures set { IsSetAs (running self.old) (metadata self.old) (running self.new) (metadata self.new) }
         ensures weight { OnOk result (weight self.new ≤ weight self.old + store_rise (entries_size chunk.now)) }
         ensures ready { OnOk result (ready self.new) }
         ensures keeps { OnOk result (IsTrue (D.kind disk.old).tells → keeps self.new (D.content disk.new)) }
@@ -94,7 +94,7 @@ pub trait StateMachine<D: Disk>: Drop {
         ensures map { map self.new ≡ record (map self.old) { mark = last_applied } }
         ensures stored { stored self.new ≡ stored self.old }
         ensures lease { leased self.new ≡ leased self.old }
-        ensures set { IsSetAs (running self.old) (said self.old) (running self.new) (said self.new) }
+        ensures set { IsSetAs (running self.old) (metadata self.old) (running self.new) (metadata self.new) }
         ensures weight { weight self.new ≡ weight self.old }
         ensures short { short self.old → short self.new }
         ensures ready { ready self.old ↔ ready self.new }
@@ -114,7 +114,7 @@ pub trait StateMachine<D: Disk>: Drop {
         ensures map { OnOk result (map self.new ≡ record (map self.old) { mark = last_applied }) }
         ensures stored { OnOk result (stored self.new ≡ last_applied) }
         ensures lease { leased self.new ≡ leased self.old }
-        ensures set { IsSetAs (running self.old) (said self.old) (running self.new) (said self.new) }
+        ensures set { IsSetAs (running self.old) (metadata self.old) (running self.new) (metadata self.new) }
         ensures weight { OnOk result (weight self.new ≤ weight self.old + store_rise 0) }
         ensures short { short self.old → short self.new }
         ensures ready { OnOk result (ready self.new) }
@@ -136,7 +136,7 @@ pub trait StateMachine<D: Disk>: Drop {
         ensures nothing { stored self.old ≡ (map self.old).mark → (self.new ≡ self.old) × (disk.new ≡ disk.old) }
         ensures stored { OnOk result (stored self.new ≡ (map self.old).mark) }
         ensures lease { leased self.new ≡ leased self.old }
-        ensures set { IsSetAs (running self.old) (said self.old) (running self.new) (said self.new) }
+        ensures set { IsSetAs (running self.old) (metadata self.old) (running self.new) (metadata self.new) }
         ensures weight { OnOk result (weight self.new ≤ weight self.old + store_rise 0) }
         ensures short { short self.old → short self.new }
         ensures ready { OnOk result (ready self.new) }
@@ -175,7 +175,7 @@ pub trait StateMachine<D: Disk>: Drop {
         ensures nothing { (leased self.old && has_due (max now 1) (map self.old).expiries) ≡ false → (self.new ≡ self.old) × (disk.new ≡ disk.old) }
         ensures stored { stored self.new ≡ stored self.old }
         ensures lease { leased self.new ≡ leased self.old }
-        ensures set { IsSetAs (running self.old) (said self.old) (running self.new) (said self.new) }
+        ensures set { IsSetAs (running self.old) (metadata self.old) (running self.new) (metadata self.new) }
         ensures weight { OnOk result (weight self.new ≤ weight self.old + store_rise 0) }
         ensures ready { OnOk result (ready self.new) }
         ensures keeps { OnOk result (IsTrue (D.kind disk.old).tells → keeps self.new (D.content disk.new)) }
@@ -201,12 +201,12 @@ pub trait StateMachine<D: Disk>: Drop {
 
     /// Marks it as running, in memory.
     fn start(&mut self)
-        ensures set { IsSetAs true (said self.old) (running self.new) (said self.new) }
+        ensures set { IsSetAs true (metadata self.old) (running self.new) (metadata self.new) }
         ensures same { StaysAs map stored leased weight short ready keeps self.old self.new };
 
     /// Marks it as stopped, in memory. Its other calls are as before.
     fn stop(&mut self)
-        ensures set { IsSetAs false (said self.old) (running self.new) (said self.new) }
+        ensures set { IsSetAs false (metadata self.old) (running self.new) (metadata self.new) }
         ensures same { StaysAs map stored leased weight short ready keeps self.old self.new };
 
     /// Whether it was started last, and not stopped.
@@ -215,16 +215,16 @@ pub trait StateMachine<D: Disk>: Drop {
 
     /// What was last said of a snapshot.
     fn snapshot_metadata(&self) -> Option<SnapshotMetadata>
-        ensures { result ≡ said self.now };
+        ensures { result ≡ metadata self.now };
 
     /// Says something of a snapshot, in memory.
-    fn update_last_snapshot_metadata(&mut self, metadata: SnapshotMetadata)
-        ensures set { IsSetAs (running self.old) (Some metadata) (running self.new) (said self.new) }
+    fn update_last_snapshot_metadata(&mut self, snapshot_metadata: SnapshotMetadata)
+        ensures set { IsSetAs (running self.old) (Some snapshot_metadata) (running self.new) (metadata self.new) }
         ensures same { StaysAs map stored leased weight short ready keeps self.old self.new };
 
     /// The same: nothing of it is written.
-    fn persist_last_snapshot_metadata(&mut self, metadata: SnapshotMetadata)
-        ensures set { IsSetAs (running self.old) (Some metadata) (running self.new) (said self.new) }
+    fn persist_last_snapshot_metadata(&mut self, snapshot_metadata: SnapshotMetadata)
+        ensures set { IsSetAs (running self.old) (Some snapshot_metadata) (running self.new) (metadata self.new) }
         ensures same { StaysAs map stored leased weight short ready keeps self.old self.new };
 
     /// How many pairs the map has.

@@ -10,7 +10,7 @@ use Rattle.den_lease.specs.Due.{has_due}
 use Rattle.den_state.specs.declared.file_machine.FileStateMachine.{FileStateMachine}
 use Rattle.den_state.specs.Cleanup.{cleaned_map}
 use Rattle.den_gate.specs.Gate.{payloads}
-use Rattle.den_state.specs.Machine.{Lies, map_held, stored_map}
+use Rattle.den_state.specs.Machine.{GivesMap, map_held, stored_map}
 use Rattle.den_state.specs.Tail.{tail_after_payload}
 use Rattle.den_state.proofs.Tails.{tail_appended}
 use Rattle.den_state.proofs.Cleaning.{nothing_cleaned, nothing_removed, due_cleaned}
@@ -76,10 +76,10 @@ returns-clause-keeps g c = λ tells.
     let stored : c.append.new.self.stored ≡ s.stored = ap (λ (m : FileStateMachine). m.stored) c.append.ensures.rest in
     let count : c.saturating_add-self.result ≡ min (s.tail + 1) (2 ^ 64 - 1) = c.saturating_add-self.ensures ∙ ap (λ (m : FileStateMachine). min (m.tail + 1) (2 ^ 64 - 1)) c.append.ensures.rest in
     let after = ap (map_after_payload (stored_map s)) c.deref.ensures.value ∙ c.in_ok-due.ensures.means (stored_map s) in
-    let files = c.in_ok-append.ensures.lies tells (stored_map s) (cleaned_map moment (stored_map s)) k.files after in
+    let files = c.in_ok-append.ensures.gives tells (stored_map s) (cleaned_map moment (stored_map s)) k.files after in
     let same : cleaned_map moment (stored_map s) ≡ record c.clean.new.self { mark = c.append.new.self.stored } = λ i. record (sym map i) { mark = sym stored i } in
     record {
-      files = subst (λ m. Lies c.append.new.self.gate m (g.D.Disk.content c.append.new.disk)) same files;
+      files = subst (λ m. GivesMap c.append.new.self.gate m (g.D.Disk.content c.append.new.disk)) same files;
       below = omega (arith, k.below, ap (λ (m : MapState). m.mark.index) map, ap (λ (p : LogId). p.index) stored);
       tail = tail_appended (payloads s.gate (g.D.Disk.content c.args.disk.now).reading) _ c.deref.result.now s.tail _ (c.in_ok-append.ensures.appended tells) k.tail
           (count ∙ sym (ap (tail_after_payload s.tail) c.deref.ensures.value ∙ c.in_ok-due.ensures.counts s.tail));
