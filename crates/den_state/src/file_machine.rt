@@ -80,7 +80,8 @@ fn state_error(error: GateError) -> Error
 
 impl FileStateMachine {
     /// The map that the files give, with a lease or without one. Expiries in the files are kept also without a lease.
-    /// All files are on the disk then.
+    /// All files are on the disk then. It is refused for want of memory, for a fault of the disk, and by
+    /// `DataCorruption` where the files give no map: it names the slot and the place of what is no lawful region.
     pub fn new<D: Disk>(
         alloc: Global,
         disk: &mut D,
@@ -435,7 +436,8 @@ impl<D: Disk> StateMachine<D> for FileStateMachine {
         Ok(due.keys)
     }
 
-    /// Whether a call failed after it had begun to change the map. It is opened anew then.
+    /// Whether a write was refused, by a fault of the disk or a full one, or memory was wanting behind a write. It is
+    /// opened anew then.
     fn is_failed(&self) -> bool {
         self.failed || self.gate.is_failed()
     }

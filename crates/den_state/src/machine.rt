@@ -63,8 +63,8 @@ pub trait StateMachine<D: Disk>: Drop {
 
     /// Applies entries in order, each swap seeing the writes before it, and answers whether each succeeded. A chunk out
     /// of order, or with a time to live where no lease is configured, is refused with nothing changed; a fault of the
-    /// disk or a full one ends its use. A chunk without entries changes nothing. A crash inside leaves the old map with
-    /// the old stored mark, or the new map.
+    /// disk or a full one ends its use; want of memory leaves all as it was, or ends its use. A chunk without entries
+    /// changes nothing. A crash inside leaves the old map with the old stored mark, or the new map.
     fn apply_chunk(&mut self, disk: &mut D, chunk: &[Entry]) -> Result<Rows<ApplyResult>, Error>
         requires ready { ready self.old }
         requires keeps { IsTrue (D.kind disk.old).tells → keeps self.old (D.content disk.old) }
