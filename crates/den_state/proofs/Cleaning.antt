@@ -7,7 +7,7 @@ use Rattle.den_model.specs.Apply.{is_expired, kept_pairs, kept_expiries}
 use Rattle.den_model.specs.MapState.{MapState}
 use Rattle.den_model.specs.Table.{Table, is_same, at}
 use Rattle.den_lease.specs.Due.{due_keys, has_due}
-use Rattle.den_state.specs.Cleanup.{cleaned_where, removed_where}
+use Rattle.den_state.specs.Cleanup.{cleaned_map, cleaned_where, removed_where}
 
 neither : (a b : Bool) → (a || b) ≡ false → (a ≡ false) × (b ≡ false)
 neither false b e = (refl, e)
@@ -49,3 +49,8 @@ nothing_removed true moment s none = no_keys s.expiries moment none
 pub leased_for : (leased some : Bool) → (leased && some) ≡ true → true ≡ leased
 leased_for true some e = refl
 leased_for false some e = absurd cc
+
+-- where something is
+pub due_cleaned : (leased due : Bool) (moment at : ℕ) (s : MapState) → (leased && due) ≡ true → moment ≡ at → cleaned_map moment s ≡ cleaned_where leased at s
+due_cleaned true due moment at s is same = ap (λ n. cleaned_map n s) same
+due_cleaned false due moment at s is same = absurd cc

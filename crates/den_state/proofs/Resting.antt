@@ -18,8 +18,8 @@ use Rattle.den_gate.specs.Gate.{payloads, IsAtRest, IsCurrent, KeepsOrAddsFamily
 use Rattle.den_gate.proofs.Families.{rest_list, adds_meaning}
 use Rattle.den_map.proofs.Lists.{list_push}
 use Rattle.den_state.specs.Chunk.{Leaves, LeavesOrEnds}
-use Rattle.den_state.specs.Machine.{Lies, map_held, IsOpeningRefusal, IsWriteRefusal}
-use Rattle.den_state.specs.Laws.{map_of_list, map_own, list_means, lies_image}
+use Rattle.den_state.specs.Machine.{GivesMap, map_held, IsOpeningRefusal, IsWriteRefusal}
+use Rattle.den_state.specs.Laws.{map_of_list, map_own, list_means, map_image}
 
 -- ---- no call of the disk
 
@@ -31,10 +31,10 @@ module _ {D : Type 0} (kind : D → Kind) (content : D → Content) (moment : D 
     told = λ tells. record { later = omega arith; past = λ t files le i. i; keeps = λ t files le i. i };
   }
 
-  pub held_still : (gate : GateFile) (m next : MapState) → ((files : Files) → images disk (moment disk) files ↔ IsImage (content disk) files) → Lies gate m (content disk)
+  pub held_still : (gate : GateFile) (m next : MapState) → ((files : Files) → images disk (moment disk) files ↔ IsImage (content disk) files) → GivesMap gate m (content disk)
       → OldOrNew map_held (images disk) (moment disk) (moment disk) m next
-  held_still gate m next now l = record {
-    each = λ t files from to i. let at : t ≡ moment disk = omega arith in inl (lies_image gate m (content disk) files l ((now files).0 (subst (λ u. images disk u files) at i)));
+  held_still gate m next now gives = record {
+    each = λ t files from to i. let at : t ≡ moment disk = omega arith in inl (map_image gate m (content disk) files gives ((now files).0 (subst (λ u. images disk u files) at i)));
   }
 
   pub images_still : (own : Family) → SparesImages own (images disk) (images disk) (moment disk) (moment disk)
@@ -47,22 +47,22 @@ others_still own c = record { reading = λ q ne. refl; pending = λ q ne k h. h 
 
 -- ---- an append
 
-pub held_appended : (gate : GateFile) (m : MapState) (c : Content) (payload : List ℕ) (next : MapState) (images : ℕ → Files → Type 0) (from to : ℕ) → Lies gate m c → map_after_payload m payload ≡ Some next
+pub held_appended : (gate : GateFile) (m : MapState) (c : Content) (payload : List ℕ) (next : MapState) (images : ℕ → Files → Type 0) (from to : ℕ) → GivesMap gate m c → map_after_payload m payload ≡ Some next
     → KeepsOrAddsFamily gate.slot (payloads gate c.reading) payload images from to → OldOrNew map_held images from to m next
-held_appended gate m c payload next images from to l after kept =
+held_appended gate m c payload next images from to gives after kept =
     let list = payloads gate c.reading in
     adds_meaning map_held gate.slot list payload images from to m next
-    (λ files h. list_means gate list m files l.of_state l.means h)
-    (λ files h. list_means gate (list ++ payload ∷ []) next files l.of_state (list_push empty_map m next 0 list payload l.means after) h)
+    (λ files h. list_means gate list m files gives.of_state gives.means h)
+    (λ files h. list_means gate (list ++ payload ∷ []) next files gives.of_state (list_push empty_map m next 0 list payload gives.means after) h)
     kept
 
-pub lies_appended : (gate new : GateFile) (m next : MapState) (old_content new_content : Content) (payload : List ℕ) → Lies gate m old_content → map_after_payload m payload ≡ Some next → new.slot ≡ gate.slot
-    → IsAtRest new new_content → IsCurrent new.slot new_content → payloads new new_content.reading ≡ payloads gate old_content.reading ++ payload ∷ [] → Lies new next new_content
-lies_appended gate new m next old_content new_content payload l after slot rest current appended = record {
-  of_state = ap (λ (p : Place). p.family) slot ∙ l.of_state;
+pub map_appended : (gate new : GateFile) (m next : MapState) (old_content new_content : Content) (payload : List ℕ) → GivesMap gate m old_content → map_after_payload m payload ≡ Some next → new.slot ≡ gate.slot
+    → IsAtRest new new_content → IsCurrent new.slot new_content → payloads new new_content.reading ≡ payloads gate old_content.reading ++ payload ∷ [] → GivesMap new next new_content
+map_appended gate new m next old_content new_content payload gives after slot rest current appended = record {
+  of_state = ap (λ (p : Place). p.family) slot ∙ gives.of_state;
   at_rest = rest;
   current = current;
-  means = ap (λ list. map_from empty_map (placed 0 list)) appended ∙ list_push empty_map m next 0 (payloads gate old_content.reading) payload l.means after;
+  means = ap (λ list. map_from empty_map (placed 0 list)) appended ∙ list_push empty_map m next 0 (payloads gate old_content.reading) payload gives.means after;
 }
 
 -- ---- refusals

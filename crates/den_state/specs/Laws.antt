@@ -15,7 +15,7 @@ use Rattle.den_gate.specs.Gate.{payloads, HasList}
 use Rattle.den_gate.proofs.Families.{rest_spared, current_spared, payloads_spared, rest_image}
 use Rattle.den_map.specs.Tail.{tail_from}
 use Rattle.den_state.specs.declared.file_machine.FileStateMachine.{FileStateMachine}
-use Rattle.den_state.specs.Machine.{Lies, Keeps, Rests, stored_map, map_held}
+use Rattle.den_state.specs.Machine.{GivesMap, Keeps, Rests, stored_map, map_held}
 
 -- files whose State slot has a list give what the list gives
 pub map_of_list : (of : Family) (list : List (List ℕ)) (files : Files) (given : Result MapState ℕ) → of ≡ family.State → regions (files (slot_of of files)) ≡ Ok (placed 0 list)
@@ -31,32 +31,32 @@ map_own one other same =
     ap (λ file. meaning_of (map_from empty_map) (regions file)) (same (slot_of family.State other) refl ∙ ap one slot)
 
 -- calls that spare the State family leave it as it was
-pub lies_spared : (gate : GateFile) (m : MapState) (old new : Content) → SparesOwn family.State old new → Lies gate m old → Lies gate m new
-lies_spared gate m old new spares l =
-    let own : SparesOwn gate.slot.family old new = subst (λ f. SparesOwn f old new) (sym l.of_state) spares in
+pub map_spared : (gate : GateFile) (m : MapState) (old new : Content) → SparesOwn family.State old new → GivesMap gate m old → GivesMap gate m new
+map_spared gate m old new spares gives =
+    let own : SparesOwn gate.slot.family old new = subst (λ f. SparesOwn f old new) (sym gives.of_state) spares in
     record {
-      of_state = l.of_state;
-      at_rest = rest_spared gate old new own l.at_rest;
-      current = current_spared gate.slot old new own l.current;
-      means = ap (λ list. map_from empty_map (placed 0 list)) (payloads_spared gate old new own) ∙ l.means;
+      of_state = gives.of_state;
+      at_rest = rest_spared gate old new own gives.at_rest;
+      current = current_spared gate.slot old new own gives.current;
+      means = ap (λ list. map_from empty_map (placed 0 list)) (payloads_spared gate old new own) ∙ gives.means;
     }
 
 -- and so the records in it
-tail_spared : (s : FileStateMachine) (m : MapState) (old new : Content) → SparesOwn family.State old new → Lies s.gate m old → s.tail ≡ tail_from 0 (payloads s.gate old.reading) → s.tail ≡ tail_from 0 (payloads s.gate new.reading)
-tail_spared s m old new spares l tail =
-    let own : SparesOwn s.gate.slot.family old new = subst (λ f. SparesOwn f old new) (sym l.of_state) spares in
+tail_spared : (s : FileStateMachine) (m : MapState) (old new : Content) → SparesOwn family.State old new → GivesMap s.gate m old → s.tail ≡ tail_from 0 (payloads s.gate old.reading) → s.tail ≡ tail_from 0 (payloads s.gate new.reading)
+tail_spared s m old new spares gives tail =
+    let own : SparesOwn s.gate.slot.family old new = subst (λ f. SparesOwn f old new) (sym gives.of_state) spares in
     tail ∙ ap (tail_from 0) (sym (payloads_spared s.gate old new own))
 
 pub rests_spared : (s : FileStateMachine) (old new : Content) → SparesOwn family.State old new → Rests s old → Rests s new
 rests_spared s old new spares r = record {
-  files = lies_spared s.gate s.map old new spares r.files;
+  files = map_spared s.gate s.map old new spares r.files;
   stored = r.stored;
   tail = tail_spared s s.map old new spares r.files r.tail;
 }
 
 pub keeps_spared : (s : FileStateMachine) (old new : Content) → SparesOwn family.State old new → Keeps s old → Keeps s new
 keeps_spared s old new spares k = record {
-  files = lies_spared s.gate (stored_map s) old new spares k.files;
+  files = map_spared s.gate (stored_map s) old new spares k.files;
   below = k.below;
   tail = tail_spared s (stored_map s) old new spares k.files k.tail;
 }
@@ -68,11 +68,11 @@ pub list_means : (gate : GateFile) (list : List (List ℕ)) (m : MapState) (file
 list_means gate list m files of_state means h = ap ok (map_of_list gate.slot.family list files (Ok m) of_state h.list_is means)
 
 -- whatever a crash does to what is pending
-pub lies_image : (gate : GateFile) (m : MapState) (c : Content) (files : Files) → Lies gate m c → IsImage c files → map_held files ≡ Some m
-lies_image gate m c files l image = list_means gate (payloads gate c.reading) m files l.of_state l.means (rest_image gate c files l.at_rest l.current image)
+pub map_image : (gate : GateFile) (m : MapState) (c : Content) (files : Files) → GivesMap gate m c → IsImage c files → map_held files ≡ Some m
+map_image gate m c files gives image = list_means gate (payloads gate c.reading) m files gives.of_state gives.means (rest_image gate c files gives.at_rest gives.current image)
 
 pub rests_image : (s : FileStateMachine) (c : Content) (files : Files) → Rests s c → IsImage c files → map_held files ≡ Some s.map
-rests_image s c files r image = lies_image s.gate s.map c files r.files image
+rests_image s c files r image = map_image s.gate s.map c files r.files image
 
 -- where the stored mark is the applied one, the stored map is the map
 pub stored_is : (s : FileStateMachine) → s.stored ≡ s.map.mark → s.map ≡ stored_map s
@@ -80,10 +80,10 @@ stored_is s stored = λ i. record s.map { mark = sym stored i }
 
 pub keeps_rested : (s : FileStateMachine) (c : Content) → Rests s c → Keeps s c
 keeps_rested s c r = record {
-  files = subst (λ m. Lies s.gate m c) (stored_is s r.stored) r.files;
+  files = subst (λ m. GivesMap s.gate m c) (stored_is s r.stored) r.files;
   below = subst (λ (p : LogId). s.stored.index ≤ p.index) r.stored (le_refl s.stored.index);
   tail = r.tail;
 }
 
 pub keeps_settled : (s : FileStateMachine) (c : Content) → Keeps s c → s.stored ≡ s.map.mark → Rests s c
-keeps_settled s c k stored = record { files = subst (λ m. Lies s.gate m c) (sym (stored_is s stored)) k.files; stored = stored; tail = k.tail }
+keeps_settled s c k stored = record { files = subst (λ m. GivesMap s.gate m c) (sym (stored_is s stored)) k.files; stored = stored; tail = k.tail }

@@ -1,6 +1,7 @@
 //! The state machine in files.
-ghost use Rattle.std.specs.Prelude.{◌≡◌, ◌≤◌, ◌<◌, ◌↔◌, ◌+◌, ◌-◌, ◌*◌, ◌⊎◌, ◌^◌, min, ◌∷◌, ◌++◌, ℕ, List, [], true, false, None, Some, Ok, Err, IsTrue, IfSome, is_some, IfOk, IfErr, OnOk, OnErr, length};
+ghost use Rattle.std.specs.Prelude.{◌≡◌, ◌≤◌, ◌<◌, ◌↔◌, ◌+◌, ◌-◌, ◌*◌, ◌⊎◌, ◌^◌, ◌&&◌, min, max, ◌∷◌, ◌++◌, ℕ, List, [], true, false, None, Some, Ok, Err, IsTrue, IfSome, is_some, IfOk, IfErr, OnOk, OnErr, length};
 ghost use Rattle.den_disk.specs.declared.place.Family.TheVariants.{State as state_family};
+ghost use Rattle.den_disk.specs.Files.{Files};
 ghost use Rattle.den_disk.specs.Goes.{Rose, DiskGoesOn};
 ghost use Rattle.den_disk.specs.Families.{SparesAll, SparesOthers, SparesImages, NoNewImages, OldOrNew};
 ghost use Rattle.den_model.specs.Image.{map_in};
@@ -10,15 +11,23 @@ ghost use Rattle.den_model.specs.Sizes.{entries_size, family_size, store_rise};
 ghost use Rattle.den_model.specs.Spelling.{state_region_word};
 ghost use Rattle.den_codec.specs.Full.{IsHeavy};
 ghost use Rattle.den_gate.specs.Gate.{payloads, IsAtRest, IsCurrent};
-ghost use Rattle.den_map.specs.Journal.{all_recorded};
+ghost use Rattle.den_model.specs.Table.{by_bytes};
+ghost use Rattle.den_lease.specs.Due.{has_due};
+ghost use Rattle.std.specs.List.Sorted.{IsStrictlySortedBy};
 ghost use Rattle.den_map.specs.Leases.{lacks_lease};
 ghost use Rattle.den_map.specs.Order.{out_of_order};
-ghost use Rattle.den_state.specs.Chunk.{IsChunkRefusal, LeavesOrEnds};
-ghost use Rattle.den_state.specs.Machine.{HasShortTail, IsReady, Lies, Keeps, Rests, IsConfiguredAs, IsSetAs, IsDurable, IsOpeningRefusal, IsWriteRefusal, OnUntouched, OnWant, journaled, map_held, stored_map, state_error, state_weight};
-ghost use Rattle.den_state.specs.Laws.{rests_spared, keeps_spared, keeps_rested, keeps_settled, held_own, lies_image, rests_image};
+ghost use Rattle.den_state.specs.Chunk.{IsChunkRefusal, Leaves, LeavesOrEnds};
+ghost use Rattle.den_state.specs.Cleanup.{cleaned_where, removed_where};
+ghost use Rattle.den_map.specs.Journal.{all_recorded};
+ghost use Rattle.den_state.specs.Machine.{HasShortTail, IsReady, GivesMap, Keeps, Rests, IsConfiguredAs, IsSetAs, IsDurable, IsFullFor, IsOpeningRefusal, IsWriteRefusal, OnUntouched, OnOutOfMemory, cleanup_word, journaled, map_held, mark_word, stored_map, state_error, state_weight};
+ghost use Rattle.den_state.specs.Laws.{rests_spared, keeps_spared, keeps_rested, keeps_settled, held_own, map_image, rests_image};
 
 use crate::StateMachine;
-use den_codec::{ApplyResult, Blob, Entry, Error, JournalRecord, LogId, Rows, ScanResult};
+use crate::cleanup::prepare;
+use crate::marks::mark_payload;
+use den_codec::{
+    ApplyResult, Blob, Entry, Error, JournalRecord, LogId, Positive, Rows, ScanResult,
+};
 use den_disk::{Disk, Family, Place};
 use den_gate::{GateError, GateFile};
 use den_lease::DefaultLease;
@@ -71,7 +80,8 @@ fn state_error(error: GateError) -> Error
 
 impl FileStateMachine {
     /// The map that the files give, with a lease or without one. Expiries in the files are kept also without a lease.
-    /// All files are on the disk then.
+    /// All files are on the disk then. It is refused for want of memory, for a fault of the disk, and by
+    /// `DataCorruption` where the files give no map: it names the slot and the place of what is no lawful region.
     pub fn new<D: Disk>(
         alloc: Global,
         disk: &mut D,
@@ -84,6 +94,7 @@ impl FileStateMachine {
         ensures synced { IsTrue (D.kind disk.old).tells → IsDurable result (D.content disk.new) }
         ensures opened { IsTrue (D.kind disk.old).tells → IfOk result (λ s. map_in (D.content disk.old).reading ≡ Ok s.map) }
         ensures ready { IfOk result IsReady }
+        ensures stored { IfOk result (λ s. s.stored ≡ s.map.mark) }
         ensures lease { IfOk result (λ s. s.leased ≡ is_some lease) }
         ensures metadata { IfOk result (λ s. s.metadata ≡ None) }
         ensures running { IfOk result (λ s. s.running ≡ true) }
@@ -130,19 +141,21 @@ impl FileStateMachine {
         requires current { IsTrue (D.kind disk.old).tells → IsCurrent (self.old).gate.slot (D.content disk.old) }
         requires of_state { IsTrue (D.kind disk.old).tells → (self.old).gate.slot.family ≡ state_family }
         ensures disk { DiskGoesOn D.kind D.moment D.images D.faults disk.old disk.new }
-        ensures own { IsTrue (D.kind disk.old).tells → (before next : MapState) → Lies (self.old).gate before (D.content disk.old) → map_after_payload before payload.now ≡ Some next
+        ensures own { IsTrue (D.kind disk.old).tells → (before next : MapState) → GivesMap (self.old).gate before (D.content disk.old) → map_after_payload before payload.now ≡ Some next
             → OldOrNew map_held (D.images disk.new) (D.moment disk.old) (D.moment disk.new) before next }
         ensures others { IsTrue (D.kind disk.old).tells → SparesImages state_family (D.images disk.old) (D.images disk.new) (D.moment disk.old) (D.moment disk.new) }
         ensures spares { IsTrue (D.kind disk.old).tells → SparesOthers state_family (D.content disk.old) (D.content disk.new) }
-        ensures lies { OnOk result (IsTrue (D.kind disk.old).tells → (before next : MapState) → Lies (self.old).gate before (D.content disk.old) → map_after_payload before payload.now ≡ Some next
-            → Lies (self.new).gate next (D.content disk.new)) }
+        ensures gives { OnOk result (IsTrue (D.kind disk.old).tells → (before next : MapState) → GivesMap (self.old).gate before (D.content disk.old) → map_after_payload before payload.now ≡ Some next
+            → GivesMap (self.new).gate next (D.content disk.new)) }
         ensures appended { OnOk result (IsTrue (D.kind disk.old).tells →
             payloads (self.new).gate (D.content disk.new).reading ≡ payloads (self.old).gate (D.content disk.old).reading ++ payload.now ∷ []) }
+        ensures slot { (self.new).gate.slot ≡ (self.old).gate.slot }
         ensures end { OnOk result ((self.new).gate.end ≡ (self.old).gate.end + (9 + length payload.now)) }
         ensures ready { OnOk result (IsReady self.new) }
         ensures failed { OnErr result ((self.new).failed ≡ true) }
         ensures rest { self.new ≡ record self.old { gate = (self.new).gate; failed = (self.new).failed } }
         ensures refused { IfErr result (IsWriteRefusal ⊥ (Rose (D.faults disk.old) (D.faults disk.new)) (D.kind disk.old).limit) }
+        ensures full { IfErr result (IsFullFor self.old (D.kind disk.old).tells (D.content disk.old) (length payload.now)) }
         ensures heavy { IfErr result (λ e. (size : ℕ) → length payload.now ≤ 128 + 4 * size → IsHeavy (D.kind disk.old).limit (state_weight self.old + store_rise size) e) }
     {
         self.failed = true;
@@ -198,10 +211,12 @@ impl FileStateMachine {
         ensures appended { OnOk result (IsTrue (D.kind disk.old).tells →
             payloads (self.new).gate (D.content disk.new).reading ≡ payloads (self.old).gate (D.content disk.old).reading ++ journaled (self.old).map chunk.now) }
         ensures same { IsConfiguredAs self.old self.new }
+        ensures slot { (self.new).gate.slot ≡ (self.old).gate.slot }
         ensures failed { IfErr result (LeavesOrEnds ((self.new ≡ self.old) × (disk.new ≡ disk.old)) (IsReady self.new → ⊥)) }
-        ensures want { IfErr result (OnWant (((self.new ≡ self.old) × (disk.new ≡ disk.old)) ⊎ (((self.new).failed ≡ true) × (IsTrue (D.kind disk.old).tells →
+        ensures out_of_memory { IfErr result (OnOutOfMemory (((self.new ≡ self.old) × (disk.new ≡ disk.old)) ⊎ (((self.new).failed ≡ true) × (IsTrue (D.kind disk.old).tells →
             payloads (self.new).gate (D.content disk.new).reading ≡ payloads (self.old).gate (D.content disk.old).reading ++ journaled (self.old).map chunk.now)))) }
         ensures refused { IfErr result (IsWriteRefusal (Unit {0}) (Rose (D.faults disk.old) (D.faults disk.new)) (D.kind disk.old).limit) }
+        ensures full { IfErr result (IsFullFor self.old (D.kind disk.old).tells (D.content disk.old) (length (state_region_word (Records (all_recorded (self.old).map chunk.now))))) }
         ensures heavy { IfErr result (IsHeavy (D.kind disk.old).limit (state_weight self.old + store_rise (entries_size chunk.now))) }
     {
         let journaled = self.map.journal(self.alloc, chunk)?;
@@ -224,7 +239,7 @@ impl<D: Disk> StateMachine<D> for FileStateMachine {
 
     ghost running = { λ s. s.running };
 
-    ghost said = { λ s. s.metadata };
+    ghost metadata = { λ s. s.metadata };
 
     ghost stored = { λ s. s.stored };
 
@@ -244,7 +259,7 @@ impl<D: Disk> StateMachine<D> for FileStateMachine {
 
     ghost rests_hold = { λ s c files ready rests image. rests_image s c files rests image };
 
-    ghost keeps_hold = { λ s c files ready keeps image. lies_image s.gate (stored_map s) c files keeps.files image };
+    ghost keeps_hold = { λ s c files ready keeps image. map_image s.gate (stored_map s) c files keeps.files image };
 
     ghost rests_keep = { λ s c rests. (keeps_rested s c rests, rests.stored) };
 
@@ -274,10 +289,12 @@ impl<D: Disk> StateMachine<D> for FileStateMachine {
         ensures keeps { OnOk result (IsTrue (D.kind disk.old).tells → Keeps self.new (D.content disk.new)) }
         ensures rests { OnOk result (1 ≤ length chunk.now → IsTrue (D.kind disk.old).tells → Rests self.new (D.content disk.new)) }
         ensures refused { IfErr result (IsChunkRefusal (self.old).leased (Rose (D.faults disk.old) (D.faults disk.new)) (D.kind disk.old).limit (self.old).map.mark.index chunk.now) }
+        ensures full { IfErr result (IsFullFor self.old (D.kind disk.old).tells (D.content disk.old) (length (state_region_word (Records (all_recorded (self.old).map chunk.now))))) }
         ensures heavy { IfErr result (IsHeavy (D.kind disk.old).limit (state_weight self.old + store_rise (entries_size chunk.now))) }
         ensures failed { IfErr result (LeavesOrEnds ((self.new ≡ self.old) × (disk.new ≡ disk.old)) (IsReady self.new → ⊥)) }
         ensures untouched { IfErr result (OnUntouched ((self.new ≡ self.old) × (disk.new ≡ disk.old))) }
-        ensures want { IfErr result (OnWant (((self.new ≡ self.old) × (disk.new ≡ disk.old)) ⊎ (((self.new).failed ≡ true) × (IsTrue (D.kind disk.old).tells →
+        ensures slot { (self.new).gate.slot ≡ (self.old).gate.slot }
+        ensures out_of_memory { IfErr result (OnOutOfMemory (((self.new ≡ self.old) × (disk.new ≡ disk.old)) ⊎ (((self.new).failed ≡ true) × (IsTrue (D.kind disk.old).tells →
             payloads (self.new).gate (D.content disk.new).reading ≡ payloads (self.old).gate (D.content disk.old).reading ++ journaled (self.old).map chunk.now)))) }
         ensures appended { OnOk result (IsTrue (D.kind disk.old).tells →
             payloads (self.new).gate (D.content disk.new).reading ≡ payloads (self.old).gate (D.content disk.old).reading ++ journaled (self.old).map chunk.now) }
@@ -298,23 +315,129 @@ impl<D: Disk> StateMachine<D> for FileStateMachine {
         self.move_mark(last_applied);
     }
 
-    fn persist_last_applied(&mut self, disk: &mut D, last_applied: LogId) -> Result<(), Error> {
-        self.store_mark(disk, last_applied)
+    /// Adds one region of the mark to the journal. Memory is taken before the write alone.
+    fn persist_last_applied(&mut self, disk: &mut D, last_applied: LogId) -> Result<(), Error>
+        requires ready { IsReady self.old }
+        requires keeps { IsTrue (D.kind disk.old).tells → Keeps self.old (D.content disk.old) }
+        requires above { (self.old).map.mark.index ≤ last_applied.index }
+        ensures disk { DiskGoesOn D.kind D.moment D.images D.faults disk.old disk.new }
+        ensures own { IsTrue (D.kind disk.old).tells → OldOrNew map_held (D.images disk.new) (D.moment disk.old) (D.moment disk.new) (stored_map self.old) (record (self.old).map { mark = last_applied }) }
+        ensures others { IsTrue (D.kind disk.old).tells → SparesImages state_family (D.images disk.old) (D.images disk.new) (D.moment disk.old) (D.moment disk.new) }
+        ensures spares { IsTrue (D.kind disk.old).tells → SparesOthers state_family (D.content disk.old) (D.content disk.new) }
+        ensures map { OnOk result ((self.new).map ≡ record (self.old).map { mark = last_applied }) }
+        ensures stored { OnOk result ((self.new).stored ≡ last_applied) }
+        ensures lease { (self.new).leased ≡ (self.old).leased }
+        ensures set { IsSetAs (self.old).running (self.old).metadata (self.new).running (self.new).metadata }
+        ensures weight { OnOk result (state_weight self.new ≤ state_weight self.old + store_rise 0) }
+        ensures short { HasShortTail self.old → HasShortTail self.new }
+        ensures ready { OnOk result (IsReady self.new) }
+        ensures rests { OnOk result (IsTrue (D.kind disk.old).tells → Rests self.new (D.content disk.new)) }
+        ensures refused { IfErr result (IsWriteRefusal (Unit {0}) (Rose (D.faults disk.old) (D.faults disk.new)) (D.kind disk.old).limit) }
+        ensures full { IfErr result (IsFullFor self.old (D.kind disk.old).tells (D.content disk.old) (length (mark_word last_applied))) }
+        ensures heavy { IfErr result (IsHeavy (D.kind disk.old).limit (state_weight self.old + store_rise 0)) }
+        ensures failed { IfErr result (Leaves ((self.new ≡ self.old) × (disk.new ≡ disk.old)) (IsReady self.new → ⊥)) }
+        ensures slot { (self.new).gate.slot ≡ (self.old).gate.slot }
+        ensures appended { OnOk result (IsTrue (D.kind disk.old).tells →
+            payloads (self.new).gate (D.content disk.new).reading ≡ payloads (self.old).gate (D.content disk.old).reading ++ mark_word last_applied ∷ []) }
+    {
+        let payload = mark_payload(self.alloc, last_applied)?;
+        self.append(disk, &payload)?;
+        self.map.set_mark(last_applied);
+        self.stored = last_applied;
+        Ok(())
     }
 
-    fn save_hard_state(&mut self, disk: &mut D) -> Result<(), Error> {
-        self.store_applied(disk)
+    /// Adds one region of the mark to the journal, where it is not the stored one.
+    fn save_hard_state(&mut self, disk: &mut D) -> Result<(), Error>
+        requires ready { IsReady self.old }
+        requires keeps { IsTrue (D.kind disk.old).tells → Keeps self.old (D.content disk.old) }
+        ensures disk { DiskGoesOn D.kind D.moment D.images D.faults disk.old disk.new }
+        ensures own { IsTrue (D.kind disk.old).tells → OldOrNew map_held (D.images disk.new) (D.moment disk.old) (D.moment disk.new) (stored_map self.old) ((self.old).map) }
+        ensures others { IsTrue (D.kind disk.old).tells → SparesImages state_family (D.images disk.old) (D.images disk.new) (D.moment disk.old) (D.moment disk.new) }
+        ensures spares { IsTrue (D.kind disk.old).tells → SparesOthers state_family (D.content disk.old) (D.content disk.new) }
+        ensures map { OnOk result ((self.new).map ≡ (self.old).map) }
+        ensures nothing { (self.old).stored ≡ (self.old).map.mark → (self.new ≡ self.old) × (disk.new ≡ disk.old) }
+        ensures stored { OnOk result ((self.new).stored ≡ (self.old).map.mark) }
+        ensures lease { (self.new).leased ≡ (self.old).leased }
+        ensures set { IsSetAs (self.old).running (self.old).metadata (self.new).running (self.new).metadata }
+        ensures weight { OnOk result (state_weight self.new ≤ state_weight self.old + store_rise 0) }
+        ensures short { HasShortTail self.old → HasShortTail self.new }
+        ensures ready { OnOk result (IsReady self.new) }
+        ensures rests { OnOk result (IsTrue (D.kind disk.old).tells → Rests self.new (D.content disk.new)) }
+        ensures refused { IfErr result (IsWriteRefusal (Unit {0}) (Rose (D.faults disk.old) (D.faults disk.new)) (D.kind disk.old).limit) }
+        ensures full { IfErr result (IsFullFor self.old (D.kind disk.old).tells (D.content disk.old) (length (mark_word (self.old).map.mark))) }
+        ensures heavy { IfErr result (IsHeavy (D.kind disk.old).limit (state_weight self.old + store_rise 0)) }
+        ensures failed { IfErr result (Leaves ((self.new ≡ self.old) × (disk.new ≡ disk.old)) (IsReady self.new → ⊥)) }
+        ensures slot { (self.new).gate.slot ≡ (self.old).gate.slot }
+        ensures appended { OnOk result (((self.old).stored ≡ (self.old).map.mark → ⊥) → IsTrue (D.kind disk.old).tells →
+            payloads (self.new).gate (D.content disk.new).reading ≡ payloads (self.old).gate (D.content disk.old).reading ++ mark_word (self.old).map.mark ∷ []) }
+    {
+        let mark = self.map.mark();
+        if self.stored.index == mark.index && self.stored.term == mark.term {
+            return Ok(());
+        }
+        self.persist_last_applied(disk, mark)
     }
 
-    fn close(self, disk: &mut D) -> Result<(), Error> {
-        self.end(disk)
+    /// Adds one region of the mark to the journal, where it is not the stored one.
+    fn close(mut self, disk: &mut D) -> Result<(), Error>
+        requires ready { IsReady self }
+        requires keeps { IsTrue (D.kind disk.old).tells → Keeps self (D.content disk.old) }
+        ensures disk { DiskGoesOn D.kind D.moment D.images D.faults disk.old disk.new }
+        ensures own { IsTrue (D.kind disk.old).tells → OldOrNew map_held (D.images disk.new) (D.moment disk.old) (D.moment disk.new) (stored_map self) self.map }
+        ensures others { IsTrue (D.kind disk.old).tells → SparesImages state_family (D.images disk.old) (D.images disk.new) (D.moment disk.old) (D.moment disk.new) }
+        ensures spares { IsTrue (D.kind disk.old).tells → SparesOthers state_family (D.content disk.old) (D.content disk.new) }
+        ensures held { OnOk result (IsTrue (D.kind disk.old).tells → (files : Files) → D.images disk.new (D.moment disk.new) files → map_held files ≡ Some self.map) }
+        ensures nothing { self.stored ≡ self.map.mark → disk.new ≡ disk.old }
+        ensures refused { IfErr result (IsWriteRefusal (Unit {0}) (Rose (D.faults disk.old) (D.faults disk.new)) (D.kind disk.old).limit) }
+        ensures full { IfErr result (IsFullFor self (D.kind disk.old).tells (D.content disk.old) (length (mark_word self.map.mark))) }
+        ensures heavy { IfErr result (IsHeavy (D.kind disk.old).limit (state_weight self + store_rise 0)) }
+        ensures appended { OnOk result ((self.stored ≡ self.map.mark → ⊥) → IsTrue (D.kind disk.old).tells →
+            payloads self.gate (D.content disk.new).reading ≡ payloads self.gate (D.content disk.old).reading ++ mark_word self.map.mark ∷ []) }
+    {
+        self.save_hard_state(disk)
     }
 
-    fn lease_background_cleanup(&mut self, disk: &mut D, now: u64) -> Result<Rows<Blob>, Error> {
-        self.clean_up(disk, now)
+    /// Adds one region of the cleanup to the journal, where a key has expired. Memory is taken before the write alone.
+    fn lease_background_cleanup(&mut self, disk: &mut D, now: u64) -> Result<Rows<Blob>, Error>
+        requires ready { IsReady self.old }
+        requires keeps { IsTrue (D.kind disk.old).tells → Keeps self.old (D.content disk.old) }
+        ensures disk { DiskGoesOn D.kind D.moment D.images D.faults disk.old disk.new }
+        ensures own { IsTrue (D.kind disk.old).tells → OldOrNew map_held (D.images disk.new) (D.moment disk.old) (D.moment disk.new)
+            (stored_map self.old) (cleaned_where (self.old).leased (max now 1) (stored_map self.old)) }
+        ensures others { IsTrue (D.kind disk.old).tells → SparesImages state_family (D.images disk.old) (D.images disk.new) (D.moment disk.old) (D.moment disk.new) }
+        ensures spares { IsTrue (D.kind disk.old).tells → SparesOthers state_family (D.content disk.old) (D.content disk.new) }
+        ensures cleaned { OnOk result ((self.new).map ≡ cleaned_where (self.old).leased (max now 1) (self.old).map) }
+        ensures keys { IfOk result (λ keys. keys ≡ removed_where (self.old).leased (max now 1) (self.old).map) }
+        ensures sorted { IfOk result (λ keys. IsStrictlySortedBy by_bytes keys) }
+        ensures nothing { ((self.old).leased && has_due (max now 1) (self.old).map.expiries) ≡ false → (self.new ≡ self.old) × (disk.new ≡ disk.old) }
+        ensures stored { (self.new).stored ≡ (self.old).stored }
+        ensures lease { (self.new).leased ≡ (self.old).leased }
+        ensures set { IsSetAs (self.old).running (self.old).metadata (self.new).running (self.new).metadata }
+        ensures weight { OnOk result (state_weight self.new ≤ state_weight self.old + store_rise 0) }
+        ensures ready { OnOk result (IsReady self.new) }
+        ensures keeps { OnOk result (IsTrue (D.kind disk.old).tells → Keeps self.new (D.content disk.new)) }
+        ensures refused { IfErr result (IsWriteRefusal (Unit {0}) (Rose (D.faults disk.old) (D.faults disk.new)) (D.kind disk.old).limit) }
+        ensures full { IfErr result (IsFullFor self.old (D.kind disk.old).tells (D.content disk.old) (length (cleanup_word (max now 1)))) }
+        ensures heavy { IfErr result (IsHeavy (D.kind disk.old).limit (state_weight self.old + store_rise 0)) }
+        ensures failed { IfErr result (Leaves ((self.new ≡ self.old) × (disk.new ≡ disk.old)) (IsReady self.new → ⊥)) }
+        ensures slot { (self.new).gate.slot ≡ (self.old).gate.slot }
+        ensures appended { OnOk result (((self.old).leased && has_due (max now 1) (self.old).map.expiries) ≡ true → IsTrue (D.kind disk.old).tells →
+            payloads (self.new).gate (D.content disk.new).reading ≡ payloads (self.old).gate (D.content disk.old).reading ++ cleanup_word (max now 1) ∷ []) }
+    {
+        let moment = Positive::of(now.max(1));
+        if !self.is_due(moment.get()) {
+            return Ok(Rows::of(Vec::new(self.alloc)));
+        }
+        let due = prepare(self.alloc, &self.map, moment)?;
+        self.append(disk, &due.payload)?;
+        self.map.clean(moment);
+        self.tail = self.tail.saturating_add(1);
+        Ok(due.keys)
     }
 
-    /// Whether a call failed after it had begun to change the map. It is opened anew then.
+    /// Whether a write was refused, by a fault of the disk or a full one, or memory was wanting behind a write. It is
+    /// opened anew then.
     fn is_failed(&self) -> bool {
         self.failed || self.gate.is_failed()
     }
@@ -347,12 +470,12 @@ impl<D: Disk> StateMachine<D> for FileStateMachine {
         self.metadata
     }
 
-    fn update_last_snapshot_metadata(&mut self, metadata: SnapshotMetadata) {
-        self.metadata = Some(metadata);
+    fn update_last_snapshot_metadata(&mut self, snapshot_metadata: SnapshotMetadata) {
+        self.metadata = Some(snapshot_metadata);
     }
 
-    fn persist_last_snapshot_metadata(&mut self, metadata: SnapshotMetadata) {
-        self.metadata = Some(metadata);
+    fn persist_last_snapshot_metadata(&mut self, snapshot_metadata: SnapshotMetadata) {
+        self.metadata = Some(snapshot_metadata);
     }
 
     fn len(&self) -> usize {

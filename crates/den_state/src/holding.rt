@@ -5,7 +5,7 @@ use crate::FileStateMachine;
 use den_lease::DefaultLease;
 
 impl FileStateMachine {
-    /// Configures a lease.
+    /// Configures a lease. The one given has no key, and is not kept: the state machine has the expiries itself.
     pub fn set_lease(&mut self, _lease: DefaultLease)
         requires { _lease.map ≡ [] }
         ensures { self.new ≡ record self.old { leased = true } }

@@ -54,7 +54,7 @@ pub trait StateMachine<D: Disk>: Drop {
     ghost running: { Self → Bool };
 
     /// What was last said of a snapshot.
-    ghost said: { Self → Option SnapshotMetadata };
+    ghost metadata: { Self → Option SnapshotMetadata };
 
     /// A number of bytes: what its files and the calls since it was opened handed it, at most. A disk is told to be full
     /// only where four times the weight is above the limit of a file.
@@ -65,8 +65,8 @@ pub trait StateMachine<D: Disk>: Drop {
 
     /// Applies entries in order, each swap seeing the writes before it, and answers whether each succeeded. A chunk out
     /// of order, or with a time to live where no lease is configured, is refused with nothing changed; a fault of the
-    /// disk or a full one ends its use. A chunk without entries changes nothing. A crash inside leaves the old map with
-    /// the old stored mark, or the new map.
+    /// disk or a full one ends its use; want of memory leaves all as it was, or ends its use. A chunk without entries
+    /// changes nothing. A crash inside leaves the old map with the old stored mark, or the new map.
     fn apply_chunk(&mut self, disk: &mut D, chunk: &[Entry]) -> Result<Rows<ApplyResult>, Error>
         requires ready { ready self.old }
         requires keeps { IsTrue (D.kind disk.old).tells → keeps self.old (D.content disk.old) }
@@ -81,7 +81,7 @@ pub trait StateMachine<D: Disk>: Drop {
         ensures nothing { chunk.now ≡ [] → (self.new ≡ self.old) × (disk.new ≡ disk.old) }
         ensures stored { OnOk result (1 ≤ length chunk.now → stored self.new ≡ (map self.new).mark) }
         ensures lease { leased self.new ≡ leased self.old }
-        ensures set { IsSetAs (running self.old) (said self.old) (running self.new) (said self.new) }
+        ensures set { IsSetAs (running self.old) (metadata self.old) (running self.new) (metadata self.new) }
         ensures weight { OnOk result (weight self.new ≤ weight self.old + store_rise (entries_size chunk.now)) }
         ensures ready { OnOk result (ready self.new) }
         ensures keeps { OnOk result (IsTrue (D.kind disk.old).tells → keeps self.new (D.content disk.new)) }
@@ -96,10 +96,10 @@ pub trait StateMachine<D: Disk>: Drop {
         ensures map { map self.new ≡ record (map self.old) { mark = last_applied } }
         ensures stored { stored self.new ≡ stored self.old }
         ensures lease { leased self.new ≡ leased self.old }
-        ensures set { IsSetAs (running self.old) (said self.old) (running self.new) (said self.new) }
+        ensures set { IsSetAs (running self.old) (metadata self.old) (running self.new) (metadata self.new) }
         ensures weight { weight self.new ≡ weight self.old }
         ensures short { short self.old → short self.new }
-        ensures ready { ready self.old → ready self.new }
+        ensures ready { ready self.old ↔ ready self.new }
         ensures keeps { (content : Content) → keeps self.old content → keeps self.new content };
 
     /// Moves the applied mark and the stored one. A crash inside leaves the old map with the old stored mark, or the
@@ -116,7 +116,7 @@ pub trait StateMachine<D: Disk>: Drop {
         ensures map { OnOk result (map self.new ≡ record (map self.old) { mark = last_applied }) }
         ensures stored { OnOk result (stored self.new ≡ last_applied) }
         ensures lease { leased self.new ≡ leased self.old }
-        ensures set { IsSetAs (running self.old) (said self.old) (running self.new) (said self.new) }
+        ensures set { IsSetAs (running self.old) (metadata self.old) (running self.new) (metadata self.new) }
         ensures weight { OnOk result (weight self.new ≤ weight self.old + store_rise 0) }
         ensures short { short self.old → short self.new }
         ensures ready { OnOk result (ready self.new) }
@@ -125,7 +125,7 @@ pub trait StateMachine<D: Disk>: Drop {
         ensures heavy { IfErr result (IsHeavy (D.kind disk.old).limit (weight self.old + store_rise 0)) }
         ensures failed { IfErr result (Leaves ((self.new ≡ self.old) × (disk.new ≡ disk.old)) (ready self.new → ⊥)) };
 
-    /// Stores the applied mark.
+    /// Stores the applied mark. Where it is stored it writes nothing.
     fn save_hard_state(&mut self, disk: &mut D) -> Result<(), Error>
         requires ready { ready self.old }
         requires keeps { IsTrue (D.kind disk.old).tells → keeps self.old (D.content disk.old) }
@@ -135,9 +135,10 @@ pub trait StateMachine<D: Disk>: Drop {
         ensures others { IsTrue (D.kind disk.old).tells → SparesImages state_family (D.images disk.old) (D.images disk.new) (D.moment disk.old) (D.moment disk.new) }
         ensures spares { IsTrue (D.kind disk.old).tells → SparesOthers state_family (D.content disk.old) (D.content disk.new) }
         ensures map { OnOk result (map self.new ≡ map self.old) }
+        ensures nothing { stored self.old ≡ (map self.old).mark → (self.new ≡ self.old) × (disk.new ≡ disk.old) }
         ensures stored { OnOk result (stored self.new ≡ (map self.old).mark) }
         ensures lease { leased self.new ≡ leased self.old }
-        ensures set { IsSetAs (running self.old) (said self.old) (running self.new) (said self.new) }
+        ensures set { IsSetAs (running self.old) (metadata self.old) (running self.new) (metadata self.new) }
         ensures weight { OnOk result (weight self.new ≤ weight self.old + store_rise 0) }
         ensures short { short self.old → short self.new }
         ensures ready { OnOk result (ready self.new) }
@@ -146,7 +147,7 @@ pub trait StateMachine<D: Disk>: Drop {
         ensures heavy { IfErr result (IsHeavy (D.kind disk.old).limit (weight self.old + store_rise 0)) }
         ensures failed { IfErr result (Leaves ((self.new ≡ self.old) × (disk.new ≡ disk.old)) (ready self.new → ⊥)) };
 
-    /// Stores the applied mark, and lets the state machine go.
+    /// Stores the applied mark, and lets the state machine go. Where it is stored it writes nothing.
     fn close(self, disk: &mut D) -> Result<(), Error>
         requires ready { ready self }
         requires keeps { IsTrue (D.kind disk.old).tells → keeps self (D.content disk.old) }
@@ -156,6 +157,7 @@ pub trait StateMachine<D: Disk>: Drop {
         ensures others { IsTrue (D.kind disk.old).tells → SparesImages state_family (D.images disk.old) (D.images disk.new) (D.moment disk.old) (D.moment disk.new) }
         ensures spares { IsTrue (D.kind disk.old).tells → SparesOthers state_family (D.content disk.old) (D.content disk.new) }
         ensures held { OnOk result (IsTrue (D.kind disk.old).tells → (files : Files) → D.images disk.new (D.moment disk.new) files → holds files ≡ Some (map self)) }
+        ensures nothing { stored self ≡ (map self).mark → disk.new ≡ disk.old }
         ensures refused { IfErr result (IsWriteRefusal (Unit {0}) (Rose (D.faults disk.old) (D.faults disk.new)) (D.kind disk.old).limit) }
         ensures heavy { IfErr result (IsHeavy (D.kind disk.old).limit (weight self + store_rise 0)) };
 
@@ -175,7 +177,7 @@ pub trait StateMachine<D: Disk>: Drop {
         ensures nothing { (leased self.old && has_due (max now 1) (map self.old).expiries) ≡ false → (self.new ≡ self.old) × (disk.new ≡ disk.old) }
         ensures stored { stored self.new ≡ stored self.old }
         ensures lease { leased self.new ≡ leased self.old }
-        ensures set { IsSetAs (running self.old) (said self.old) (running self.new) (said self.new) }
+        ensures set { IsSetAs (running self.old) (metadata self.old) (running self.new) (metadata self.new) }
         ensures weight { OnOk result (weight self.new ≤ weight self.old + store_rise 0) }
         ensures ready { OnOk result (ready self.new) }
         ensures keeps { OnOk result (IsTrue (D.kind disk.old).tells → keeps self.new (D.content disk.new)) }
@@ -201,12 +203,12 @@ pub trait StateMachine<D: Disk>: Drop {
 
     /// Marks it as running, in memory.
     fn start(&mut self)
-        ensures set { IsSetAs true (said self.old) (running self.new) (said self.new) }
+        ensures set { IsSetAs true (metadata self.old) (running self.new) (metadata self.new) }
         ensures same { StaysAs map stored leased weight short ready keeps self.old self.new };
 
     /// Marks it as stopped, in memory. Its other calls are as before.
     fn stop(&mut self)
-        ensures set { IsSetAs false (said self.old) (running self.new) (said self.new) }
+        ensures set { IsSetAs false (metadata self.old) (running self.new) (metadata self.new) }
         ensures same { StaysAs map stored leased weight short ready keeps self.old self.new };
 
     /// Whether it was started last, and not stopped.
@@ -215,16 +217,16 @@ pub trait StateMachine<D: Disk>: Drop {
 
     /// What was last said of a snapshot.
     fn snapshot_metadata(&self) -> Option<SnapshotMetadata>
-        ensures { result ≡ said self.now };
+        ensures { result ≡ metadata self.now };
 
     /// Says something of a snapshot, in memory.
-    fn update_last_snapshot_metadata(&mut self, metadata: SnapshotMetadata)
-        ensures set { IsSetAs (running self.old) (Some metadata) (running self.new) (said self.new) }
+    fn update_last_snapshot_metadata(&mut self, snapshot_metadata: SnapshotMetadata)
+        ensures set { IsSetAs (running self.old) (Some snapshot_metadata) (running self.new) (metadata self.new) }
         ensures same { StaysAs map stored leased weight short ready keeps self.old self.new };
 
     /// The same: nothing of it is written.
-    fn persist_last_snapshot_metadata(&mut self, metadata: SnapshotMetadata)
-        ensures set { IsSetAs (running self.old) (Some metadata) (running self.new) (said self.new) }
+    fn persist_last_snapshot_metadata(&mut self, snapshot_metadata: SnapshotMetadata)
+        ensures set { IsSetAs (running self.old) (Some snapshot_metadata) (running self.new) (metadata self.new) }
         ensures same { StaysAs map stored leased weight short ready keeps self.old self.new };
 
     /// How many pairs the map has.

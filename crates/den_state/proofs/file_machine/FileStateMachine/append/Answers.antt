@@ -3,22 +3,22 @@ use Rattle.den_disk.specs.Files.{Kind}
 use Rattle.den_codec.specs.declared.error.Error.{Error}
 use Rattle.den_codec.specs.Full.{IsHeavy}
 use Rattle.den_model.specs.Sizes.{store_rise}
-use Rattle.den_state.proofs.Resting.{held_appended, lies_appended}
+use Rattle.den_state.proofs.Resting.{held_appended, map_appended}
 use Rattle.den_state.proofs.Weighing.{heavy_full}
 use Rattle.den_state.proofs.file_machine.FileStateMachine.append.Goals as goal
 
 pub returns-in-Ok-clause-own : goal.returns-in-Ok-clause-own
-returns-in-Ok-clause-own g c = λ tells before next l after.
-    held_appended c.args.self.now.gate before (g.D.Disk.content c.args.disk.now) c.args.payload.now next (g.D.Disk.images c.append.new.disk) _ _ l after (c.append.ensures.family tells l.current)
+returns-in-Ok-clause-own g c = λ tells before next gives after.
+    held_appended c.args.self.now.gate before (g.D.Disk.content c.args.disk.now) c.args.payload.now next (g.D.Disk.images c.append.new.disk) _ _ gives after (c.append.ensures.family tells gives.current)
 
 pub returns-in-Err-clause-own : goal.returns-in-Err-clause-own
-returns-in-Err-clause-own g c = λ tells before next l after.
-    held_appended c.args.self.now.gate before (g.D.Disk.content c.args.disk.now) c.args.payload.now next (g.D.Disk.images c.append.new.disk) _ _ l after (c.append.ensures.family tells l.current)
+returns-in-Err-clause-own g c = λ tells before next gives after.
+    held_appended c.args.self.now.gate before (g.D.Disk.content c.args.disk.now) c.args.payload.now next (g.D.Disk.images c.append.new.disk) _ _ gives after (c.append.ensures.family tells gives.current)
 
-pub returns-in-Ok-clause-lies : goal.returns-in-Ok-clause-lies
-returns-in-Ok-clause-lies g c = λ tells before next l after.
-    lies_appended c.args.self.now.gate _ before next (g.D.Disk.content c.args.disk.now) (g.D.Disk.content c.append.new.disk) c.args.payload.now l after c.append.ensures.slot (c.in-Ok.ensures.at_rest tells)
-    (c.append.ensures.current tells l.current) (c.in-Ok.ensures.appended tells)
+pub returns-in-Ok-clause-gives : goal.returns-in-Ok-clause-gives
+returns-in-Ok-clause-gives g c = λ tells before next gives after.
+    map_appended c.args.self.now.gate _ before next (g.D.Disk.content c.args.disk.now) (g.D.Disk.content c.append.new.disk) c.args.payload.now gives after c.append.ensures.slot (c.in-Ok.ensures.at_rest tells)
+    (c.append.ensures.current tells gives.current) (c.in-Ok.ensures.appended tells)
 
 pub returns-in-Err-clause-heavy : goal.returns-in-Err-clause-heavy
 returns-in-Err-clause-heavy g c = λ size light.

@@ -7,7 +7,7 @@ use Rattle.den_model.specs.Sizes.{entries_size}
 use Rattle.den_gate.specs.declared.gate.GateFile.{GateFile}
 use Rattle.den_gate.specs.Gate.{payloads}
 use Rattle.den_state.specs.declared.file_machine.FileStateMachine.{FileStateMachine}
-use Rattle.den_state.specs.Machine.{Lies, stored_map}
+use Rattle.den_state.specs.Machine.{GivesMap, stored_map}
 use Rattle.den_state.proofs.Resting.{held_still, images_still}
 use Rattle.den_state.proofs.Tails.{tail_appended, chunk_counts}
 use Rattle.den_state.proofs.Weighing.{weight_appended, light_payload}
@@ -41,9 +41,9 @@ returns-clause-rests g c = λ tells.
     let tail : c.take_on.new.self.tail ≡ min (s.tail + length c.args.chunk.now) (2 ^ 64 - 1) = c.in_ok-take_on.ensures.tail ∙ ap (λ (m : FileStateMachine). min (m.tail + length c.args.chunk.now) (2 ^ 64 - 1)) c.append.ensures.rest in
     let word = c.deref.ensures.value in
     let after = ap (map_after_payload (stored_map s)) word ∙ c.in_ok-journaled.ensures.means s.stored k.below c.requires.some in
-    let files = c.in_ok-append.ensures.lies tells (stored_map s) (map_applied_all s.map c.args.chunk.now) k.files after in
+    let files = c.in_ok-append.ensures.gives tells (stored_map s) (map_applied_all s.map c.args.chunk.now) k.files after in
     record {
-      files = subst (λ (gate : GateFile). Lies gate c.take_on.new.self.map content) (sym c.take_on.ensures.gate) (subst (λ m. Lies c.append.new.self.gate m content) (sym map) files);
+      files = subst (λ (gate : GateFile). GivesMap gate c.take_on.new.self.map content) (sym c.take_on.ensures.gate) (subst (λ m. GivesMap c.append.new.self.gate m content) (sym map) files);
       stored = c.in_ok-take_on.ensures.stored;
       tail = tail_appended (payloads s.gate (g.D.Disk.content c.args.disk.now).reading) _ c.deref.result.now s.tail _
           (ap (λ (gate : GateFile). payloads gate content.reading) c.take_on.ensures.gate ∙ c.in_ok-append.ensures.appended tells) k.tail

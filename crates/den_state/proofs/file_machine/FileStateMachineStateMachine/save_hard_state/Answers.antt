@@ -1,7 +1,7 @@
 use Rattle.den_disk.specs.declared.place.Family.TheVariants.{State}
 use Rattle.den_state.specs.Machine.{stored_map}
 use Rattle.den_state.proofs.Resting.{held_still, images_still}
-use Rattle.den_state.proofs.file_machine.FileStateMachine.store_applied.Goals as goal
+use Rattle.den_state.proofs.file_machine.FileStateMachineStateMachine.save_hard_state.Goals as goal
 
 pub returns-then-self-mark-2-clause-own : goal.returns-then-self-mark-2-clause-own
 returns-then-self-mark-2-clause-own g c = λ tells.
