@@ -1,16 +1,13 @@
 -- What a chunk wrote so far, over the map that it began with, makes the values of the map that its entries leave.
-use Rattle.std.proofs.Common.{◌≡◌, ℕ, Bool, true, false, cond, List, [], ◌∷◌, Option, Some, None, option_map, refl, sym, ap, ◌∙◌, if◌then◌else◌, nat_eq}
-use Rattle.std.specs.Option.{option_eq}
-use Rattle.std.specs.Cmp.Lexicographic.{pointwise}
+use Rattle.std.proofs.Common.{◌≡◌, ℕ, true, false, cond, List, [], Option, Some, None, option_map, refl, sym, ap, ◌∙◌, if◌then◌else◌}
 use Rattle.den_model.specs.declared.command.Command.{Command}
 use Rattle.den_model.specs.declared.command.Command.TheVariants as command
 use Rattle.den_model.specs.declared.held.Held.{Held}
-use Rattle.den_model.specs.declared.journal.JournalRecord.{JournalRecord}
 use Rattle.den_model.specs.declared.journal.JournalRecord.TheVariants as journal
 use Rattle.den_model.specs.Entries.{LogEntry}
 use Rattle.den_model.specs.Apply.{succeeds, value_at, with_pair}
 use Rattle.den_model.specs.MapState.{MapState, part_of, map_applied}
-use Rattle.den_model.specs.Table.{Table, is_same, at, set, unset}
+use Rattle.den_model.specs.Table.{is_same, at, set, unset}
 use Rattle.den_lease.proofs.Rising.{IsSorted}
 use Rattle.den_map.specs.Journal.{recorded_as, recorded}
 use Rattle.den_map.specs.Written.{Written, IsOver, noted}

@@ -1,5 +1,5 @@
 //! The cleanup of expired keys.
-ghost use Rattle.std.specs.Prelude.{◌≡◌, ◌≤◌, ◌+◌, ◌-◌, ◌^◌, ◌&&◌, ℕ, [], false, Some, min, max, IsTrue, IfOk, IfErr, OnOk, length};
+ghost use Rattle.std.specs.Prelude.{◌≡◌, ◌≤◌, ◌+◌, ◌-◌, ◌^◌, ◌&&◌, ℕ, false, Some, min, max, IsTrue, IfOk, IfErr, OnOk, length};
 ghost use Rattle.std.specs.List.Sorted.{IsStrictlySortedBy};
 ghost use Rattle.den_disk.specs.declared.place.Family.TheVariants.{State as state_family};
 ghost use Rattle.den_disk.specs.Goes.{Rose, DiskGoesOn};
@@ -13,7 +13,7 @@ ghost use Rattle.den_map.specs.Cleanup.{cleaned_map};
 ghost use Rattle.den_map.specs.Tail.{tail_after_payload};
 ghost use Rattle.den_state.specs.Chunk.{Leaves};
 ghost use Rattle.den_state.specs.Cleanup.{cleaned_where, removed_where};
-ghost use Rattle.den_state.specs.Machine.{IsReady, Keeps, Rests, IsConfiguredAs, IsWriteRefusal, map_held, stored_map, state_weight};
+ghost use Rattle.den_state.specs.Machine.{IsReady, Keeps, IsConfiguredAs, IsWriteRefusal, map_held, stored_map, state_weight};
 
 use crate::FileStateMachine;
 use den_codec::{Blob, Error, JournalRecord, Positive, Rows, write_records};

@@ -1,16 +1,13 @@
 //! The state machine in files.
-ghost use Rattle.std.specs.Prelude.{◌≡◌, ◌≤◌, ◌<◌, ◌↔◌, ◌+◌, ◌-◌, ◌*◌, ◌⊎◌, ◌^◌, min, ◌∷◌, ◌++◌, ℕ, List, [], true, false, None, Some, Ok, Err, IsTrue, IfSome, is_some, IfOk, IfErr, OnOk, OnErr, length};
+ghost use Rattle.std.specs.Prelude.{◌≡◌, ◌≤◌, ◌<◌, ◌+◌, ◌-◌, ◌*◌, ◌⊎◌, ◌^◌, min, ◌∷◌, ◌++◌, ℕ, [], true, false, None, Some, Ok, Err, IsTrue, IfSome, is_some, IfOk, IfErr, OnOk, OnErr, length};
 ghost use Rattle.den_disk.specs.declared.place.Family.TheVariants.{State as state_family};
 ghost use Rattle.den_disk.specs.Goes.{Rose, DiskGoesOn};
 ghost use Rattle.den_disk.specs.Families.{SparesAll, SparesOthers, SparesImages, NoNewImages, OldOrNew};
 ghost use Rattle.den_model.specs.Image.{map_in};
 ghost use Rattle.den_model.specs.MapState.{MapState, map_applied_all, map_after_payload, map_after_records, results_of};
-ghost use Rattle.den_model.specs.declared.region.StateRegion.TheVariants.{Records};
 ghost use Rattle.den_model.specs.Sizes.{entries_size, family_size, store_rise};
-ghost use Rattle.den_model.specs.Spelling.{state_region_word};
 ghost use Rattle.den_codec.specs.Full.{IsHeavy};
 ghost use Rattle.den_gate.specs.Gate.{payloads, IsAtRest, IsCurrent};
-ghost use Rattle.den_map.specs.Journal.{all_recorded};
 ghost use Rattle.den_map.specs.Leases.{lacks_lease};
 ghost use Rattle.den_map.specs.Order.{out_of_order};
 ghost use Rattle.den_state.specs.Chunk.{IsChunkRefusal, LeavesOrEnds};
