@@ -1,5 +1,5 @@
 -- What asks for a lease.
-use Rattle.std.specs.Prelude.{◌||◌, ◌&&◌, ℕ, Bool, false, not, List, [], ◌∷◌, length, nat_lt}
+use Rattle.std.specs.Prelude.{◌||◌, ◌&&◌, Bool, false, not, List, [], ◌∷◌, length, nat_lt}
 use Rattle.den_model.specs.Entries.{LogEntry}
 use Rattle.den_model.specs.MapState.{MapState}
 use Rattle.den_model.specs.Step.{has_ttl}

@@ -1,5 +1,5 @@
 //! A chunk of entries: its order, whether it asks for a lease, its records over the map, and what the map takes on.
-ghost use Rattle.std.specs.Prelude.{◌≡◌, ◌<◌, ◌≤◌, ◌||◌, None, Some, IfOk, OnOk, length};
+ghost use Rattle.std.specs.Prelude.{◌≡◌, ◌<◌, ◌≤◌, None, Some, IfOk, OnOk, length};
 ghost use Rattle.den_model.specs.declared.log_id.LogId.{LogId};
 ghost use Rattle.den_model.specs.MapState.{MapState, map_applied, map_applied_all, map_after_record, map_after_records, map_after_payload, results_of};
 ghost use Rattle.den_model.specs.declared.region.StateRegion.TheVariants.{Records};

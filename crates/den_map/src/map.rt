@@ -1,10 +1,10 @@
 //! The map in memory: what it holds, the record of an entry, and what a record does to pairs and expiries.
-ghost use Rattle.std.specs.Prelude.{◌≡◌, ◌<◌, ◌≤◌, ℕ, List, [], length, Option, option_map, Some, None, IfOk, OnOk, nat_eq, is_some};
+ghost use Rattle.std.specs.Prelude.{◌≡◌, [], length, option_map, IfOk, OnOk, nat_eq};
 ghost use Rattle.std.specs.Option.{option_eq};
 ghost use Rattle.std.specs.Cmp.Lexicographic.{pointwise};
-ghost use Rattle.den_model.specs.Apply.{value_at, seconds_after, kept_pairs, kept_expiries};
-ghost use Rattle.den_model.specs.MapState.{MapState, empty_map, part_of, with_pair};
 ghost use Rattle.std.specs.List.Sorted.{IsStrictlySortedBy};
+ghost use Rattle.den_model.specs.Apply.{value_at};
+ghost use Rattle.den_model.specs.MapState.{MapState, part_of, with_pair};
 ghost use Rattle.den_model.specs.Step.{begins_with, pairs_under};
 ghost use Rattle.den_model.specs.Table.{by_bytes};
 ghost use Rattle.den_lease.specs.Due.{has_due, due_keys};

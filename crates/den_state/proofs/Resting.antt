@@ -8,10 +8,10 @@ use Rattle.den_disk.specs.Place.{place_number}
 use Rattle.den_disk.specs.Files.{Files, Kind, Content, IsImage}
 use Rattle.den_disk.specs.Goes.{DiskGoesOn}
 use Rattle.den_disk.specs.Families.{SparesAll, SparesOthers, SparesImages, OldOrNew}
-use Rattle.den_model.specs.Regions.{open_regions, placed, regions}
+use Rattle.den_model.specs.Regions.{open_regions, placed}
 use Rattle.den_codec.specs.declared.error.Error.{Error}
 use Rattle.den_codec.specs.declared.error.Error.TheVariants as error
-use Rattle.den_model.specs.Image.{slot_of, meaning_of, map_in}
+use Rattle.den_model.specs.Image.{slot_of, map_in}
 use Rattle.den_model.specs.MapState.{MapState, empty_map, map_after_payload, map_from}
 use Rattle.den_gate.specs.declared.gate.GateFile.{GateFile}
 use Rattle.den_gate.specs.Gate.{payloads, IsAtRest, IsCurrent, KeepsOrAddsFamily}
@@ -85,10 +85,6 @@ both_ok (Ok x) gives p q = gives p q
 both_ok (Err e) gives p q = tt
 
 -- ---- an opening
-
--- files that cannot be read say where
-pub map_unreadable : (files : Files) (offset : ℕ) → regions (files (slot_of family.State files)) ≡ Err offset → map_in files ≡ Err offset
-map_unreadable files offset is = ap (meaning_of (map_from empty_map)) is
 
 -- what a gate file at rest lists is what the files gave before it was loaded
 pub opened_as : (gate : GateFile) (old new : Content) (given : Result MapState ℕ) → gate.slot.family ≡ family.State → IsAtRest gate new → IsCurrent gate.slot new → SparesAll old new

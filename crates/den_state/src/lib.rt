@@ -1,4 +1,4 @@
-//! The state machine: a map in memory whose journal and mark are on the disk.
+//! The state machine: the map in memory over its journal in files, with the applied mark and the stored one.
 #![tactic(auto)]
 
 mod cleanup;

@@ -4,7 +4,6 @@ ghost use Rattle.den_disk.specs.declared.place.Family.TheVariants.{State as stat
 ghost use Rattle.den_disk.specs.Files.{Files, Content, IsImage};
 ghost use Rattle.den_disk.specs.Goes.{Rose, DiskGoesOn};
 ghost use Rattle.den_disk.specs.Families.{SameOf, SparesOthers, SparesOwn, SparesImages, OldOrNew};
-ghost use Rattle.den_model.specs.declared.held.Held.{Held};
 ghost use Rattle.den_model.specs.MapState.{MapState, map_applied_all, results_of, part_of};
 ghost use Rattle.den_model.specs.Apply.{value_at};
 ghost use Rattle.den_model.specs.Sizes.{entries_size, store_rise};
