@@ -10,7 +10,8 @@ use Rattle.den_model.specs.Image.{durable, term_of, run_from, applied_all}
 use Rattle.den_model.specs.Kv.{Durable}
 use Rattle.den_model.specs.Log.{Log, floor, above, between, last_index, last_of}
 use Rattle.den_model.specs.MapState.{MapState, map_applied, map_applied_all}
-use Rattle.den_state.specs.Chunk.{asks_lease, has_expiry, out_of_order}
+use Rattle.den_map.specs.Leases.{asks_lease, has_expiry}
+use Rattle.den_map.specs.Order.{out_of_order}
 use Rattle.den_store.specs.Order.{IsInOrder}
 use Rattle.den_core.specs.Joined.{durable_is, found_is}
 use Rattle.den_core.specs.Opening.{agrees, is_exhausted, opening_refusal, refusal_by, refusal_for, IsLeft, IsOpeningFailure}

@@ -8,7 +8,7 @@ use Rattle.den_model.specs.Entries.{LogEntry}
 use Rattle.den_model.specs.Kv.{Durable}
 use Rattle.den_model.specs.Log.{Log, above, floor}
 use Rattle.den_model.specs.MapState.{MapState}
-use Rattle.den_state.specs.Chunk.{asks_lease, has_expiry}
+use Rattle.den_map.specs.Leases.{asks_lease, has_expiry}
 use Rattle.den_store.specs.Causes.{IsRefusal}
 
 -- no term or no index is left

@@ -14,6 +14,7 @@ use den_codec::{
     Refusal, Reply, Request, Rows, Running, WriteOperation,
 };
 use den_disk::Disk;
+use den_map::has_ttl;
 use den_state::StateMachine;
 use std::alloc::Global;
 
@@ -72,16 +73,6 @@ fn command_of(operation: WriteOperation) -> Command
             expected,
             value: new_value,
         },
-    }
-}
-
-/// Whether a command sets a time to live.
-pub(crate) fn has_ttl(command: &Command) -> bool
-    ensures { result ≡ has_ttl command.now }
-{
-    match command {
-        Command::Insert { ttl_secs, .. } => ttl_secs.is_some(),
-        Command::Noop | Command::Delete { .. } | Command::CompareAndSwap { .. } => false,
     }
 }
 

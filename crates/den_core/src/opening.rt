@@ -12,18 +12,19 @@ ghost use Rattle.den_model.specs.Kv.{Durable};
 ghost use Rattle.den_model.specs.Log.{above, floor, last_of};
 ghost use Rattle.den_model.specs.MapState.{map_applied_all};
 ghost use Rattle.den_model.specs.Sizes.{entries_size, store_rise};
-ghost use Rattle.den_state.specs.Chunk.{asks_lease, has_expiry, out_of_order};
+ghost use Rattle.den_map.specs.Leases.{asks_lease, has_expiry};
+ghost use Rattle.den_map.specs.Order.{out_of_order};
 ghost use Rattle.den_store.specs.Causes.{IsRefusal};
 ghost use Rattle.den_core.specs.Opening.{agrees, opening_refusal, refusal_by, IsLeft, IsOpeningFailure};
 ghost use Rattle.den_core.specs.Parts.{kv_of, IsPlain, AllRest};
 ghost use Rattle.den_core.specs.Spared.{SparesFamily};
 
 use crate::applying::apply_at_rest;
-use crate::ask::has_ttl;
 use crate::engine::current_term;
 use crate::{Engine, Stepper};
 use den_codec::{Entry, Error, Rows, Running};
 use den_disk::Disk;
+use den_map::asks_lease;
 use den_state::StateMachine;
 use den_store::{LogStore, MetaStore};
 use std::alloc::Global;
@@ -40,18 +41,6 @@ fn run_behind(index: u64, entries: &[Entry]) -> bool
         last = entry.index();
     }
     true
-}
-
-/// Whether an entry sets a time to live.
-fn asks_lease(entries: &[Entry]) -> bool
-    ensures { result ≡ asks_lease entries.now }
-{
-    for entry in entries {
-        if has_ttl(entry.command()) {
-            return true;
-        }
-    }
-    false
 }
 
 /// Whether a key of the map has an expiry, or one of these entries sets one.

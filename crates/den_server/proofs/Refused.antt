@@ -14,7 +14,7 @@ use Rattle.den_model.specs.Kv.{Durable}
 use Rattle.den_model.specs.Log.{Log, above}
 use Rattle.den_model.specs.MapState.{MapState}
 use Rattle.den_model.specs.Image.{Corruption, recovered, of_family, or_corrupt, ◌>>=◌, slot_of, log_in, hard_state_held, map_in, durable, durable_in, joined, ok}
-use Rattle.den_state.specs.Chunk.{asks_lease, has_expiry}
+use Rattle.den_map.specs.Leases.{asks_lease, has_expiry}
 use Rattle.den_state.specs.Machine.{IsOpeningRefusal as IsStateRefusal}
 use Rattle.den_store.specs.Causes.{IsRefusal}
 use Rattle.den_store.specs.Engine.{IsFirstCorrupt}

@@ -11,11 +11,11 @@ use Rattle.den_model.specs.Kv.{Durable, Kv}
 use Rattle.den_model.specs.Log.{Log, above}
 use Rattle.den_model.specs.MapState.{MapState}
 use Rattle.den_model.specs.Step.{Step}
-use Rattle.den_state.specs.Chunk.{asks_lease, has_expiry}
 use Rattle.den_store.specs.declared.log_store.FileLogStore.{FileLogStore}
 use Rattle.den_store.specs.declared.meta_store.FileMetaStore.{FileMetaStore}
 use Rattle.den_store.specs.FileLog.{log_weight}
 use Rattle.den_store.specs.FileMeta.{meta_weight}
+use Rattle.den_map.specs.Leases.{asks_lease, has_expiry}
 use Rattle.den_state.specs.declared.file_machine.FileStateMachine.{FileStateMachine}
 use Rattle.den_state.specs.Machine.{state_weight}
 use Rattle.den_core.specs.Opening.{is_exhausted}

@@ -7,7 +7,8 @@ use Rattle.den_model.specs.Apply.{is_expired, kept_pairs, kept_expiries}
 use Rattle.den_model.specs.MapState.{MapState}
 use Rattle.den_model.specs.Table.{Table, is_same, at}
 use Rattle.den_lease.specs.Due.{due_keys, has_due}
-use Rattle.den_state.specs.Cleanup.{cleaned_map, cleaned_where, removed_where}
+use Rattle.den_map.specs.Cleanup.{cleaned_map}
+use Rattle.den_state.specs.Cleanup.{cleaned_where, removed_where}
 
 neither : (a b : Bool) → (a || b) ≡ false → (a ≡ false) × (b ≡ false)
 neither false b e = (refl, e)

@@ -16,10 +16,10 @@ use Rattle.den_model.specs.MapState.{MapState, empty_map, map_after_payload, map
 use Rattle.den_gate.specs.declared.gate.GateFile.{GateFile}
 use Rattle.den_gate.specs.Gate.{payloads, IsAtRest, IsCurrent, KeepsOrAddsFamily}
 use Rattle.den_gate.proofs.Families.{rest_list, adds_meaning}
+use Rattle.den_map.proofs.Lists.{list_push}
 use Rattle.den_state.specs.Chunk.{Leaves, LeavesOrEnds}
 use Rattle.den_state.specs.Machine.{GivesMap, map_held, IsOpeningRefusal, IsWriteRefusal}
 use Rattle.den_state.specs.Laws.{map_of_list, map_own, list_means, map_image}
-use Rattle.den_state.proofs.Lists.{list_push}
 
 -- ---- no call of the disk
 

@@ -26,8 +26,8 @@ use Rattle.den_gate.specs.Slot.{whole_chunks, room_for}
 use Rattle.den_gate.specs.Gate.{payloads, IsAtRest, IsCurrent}
 use Rattle.den_gate.proofs.Families.{rest_list, slot_list}
 use Rattle.den_codec.specs.Full.{IsHeavy}
+use Rattle.den_map.specs.Journal.{expiry_of, recorded_as, recorded, all_recorded}
 use Rattle.den_state.specs.Machine.{state_error}
-use Rattle.den_state.specs.Journal.{expiry_of, recorded_as, recorded, all_recorded}
 
 -- ---- a record
 

@@ -1,28 +1,10 @@
 -- Why a chunk of entries is refused.
-use Rattle.std.specs.Prelude.{◌≡◌, ◌<◌, ◌⊎◌, ◌||◌, ◌&&◌, ℕ, Bool, true, false, not, List, [], ◌∷◌, length, Option, Some, None, nat_lt, if◌then◌else◌}
+use Rattle.std.specs.Prelude.{◌≡◌, ◌<◌, ◌⊎◌, ℕ, Bool, true, false, List, Some, None}
 use Rattle.den_codec.specs.declared.error.Error.{Error}
 use Rattle.den_codec.specs.declared.error.Error.TheVariants.{OutOfMemory, StorageIoError, DiskFull, FeatureNotEnabled, UnorderedChunk}
 use Rattle.den_model.specs.Entries.{LogEntry}
-use Rattle.den_model.specs.Step.{has_ttl}
-use Rattle.den_model.specs.MapState.{MapState}
-
--- the first index that is not above the one before it, or above this one where it is the first
-abbrev pub out_of_order : ℕ → List LogEntry → Option ℕ
-out_of_order index [] = None
-out_of_order index (e ∷ es) = if nat_lt index e.index then out_of_order e.index es else Some e.index
-
--- whether a key has an expiry
-abbrev pub has_expiry : MapState → Bool
-has_expiry s = nat_lt 0 (length s.expiries)
-
--- whether an entry has a time to live
-abbrev pub asks_lease : List LogEntry → Bool
-asks_lease [] = false
-asks_lease (e ∷ es) = has_ttl e.command || asks_lease es
-
--- whether an entry has a time to live where no lease is configured
-abbrev pub lacks_lease : Bool → List LogEntry → Bool
-lacks_lease leased chunk = asks_lease chunk && not leased
+use Rattle.den_map.specs.Leases.{lacks_lease}
+use Rattle.den_map.specs.Order.{out_of_order}
 
 -- what may refuse these entries behind this mark: their order, then a time to live without a lease, then the disk
 -- and memory

@@ -13,9 +13,9 @@ use Rattle.den_model.specs.MapState.{MapState, empty_map, map_from}
 use Rattle.den_gate.specs.declared.gate.GateFile.{GateFile}
 use Rattle.den_gate.specs.Gate.{payloads, HasList}
 use Rattle.den_gate.proofs.Families.{rest_spared, current_spared, payloads_spared, rest_image}
+use Rattle.den_map.specs.Tail.{tail_from}
 use Rattle.den_state.specs.declared.file_machine.FileStateMachine.{FileStateMachine}
 use Rattle.den_state.specs.Machine.{GivesMap, Keeps, Rests, stored_map, map_held}
-use Rattle.den_state.specs.Tail.{tail_from}
 
 -- files whose State slot has a list give what the list gives
 pub map_of_list : (of : Family) (list : List (List ℕ)) (files : Files) (given : Result MapState ℕ) → of ≡ family.State → regions (files (slot_of of files)) ≡ Ok (placed 0 list)

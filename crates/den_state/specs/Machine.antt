@@ -17,11 +17,11 @@ use Rattle.den_model.specs.Spelling.{state_region_word}
 use Rattle.den_model.specs.Regions.{placed}
 use Rattle.den_model.specs.Image.{slot_of, map_in, ok}
 use Rattle.den_model.specs.MapState.{MapState, empty_map, map_from}
+use Rattle.den_map.specs.Journal.{all_recorded}
+use Rattle.den_map.specs.Tail.{tail_from}
 use Rattle.den_state.specs.declared.file_machine.FileStateMachine.{FileStateMachine}
 use Rattle.den_state.specs.declared.file_machine.SnapshotMetadata.{SnapshotMetadata}
 use Rattle.den_model.specs.declared.log_id.LogId.{LogId}
-use Rattle.den_state.specs.Journal.{all_recorded}
-use Rattle.den_state.specs.Tail.{tail_from}
 
 -- what files give of a map
 abbrev pub map_held : Files → Option MapState

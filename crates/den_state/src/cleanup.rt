@@ -4,13 +4,13 @@ ghost use Rattle.std.specs.List.Sorted.{IsStrictlySortedBy};
 ghost use Rattle.den_model.specs.MapState.{MapState, map_after_payload};
 ghost use Rattle.den_model.specs.Table.{by_bytes};
 ghost use Rattle.den_lease.specs.Due.{due_keys, has_due};
-ghost use Rattle.den_state.specs.Cleanup.{cleaned_map};
+ghost use Rattle.den_map.specs.Cleanup.{cleaned_map};
+ghost use Rattle.den_map.specs.Tail.{tail_after_payload};
 ghost use Rattle.den_state.specs.Machine.{cleanup_word};
-ghost use Rattle.den_state.specs.Tail.{tail_after_payload};
 
 use crate::FileStateMachine;
-use crate::map::Map;
 use den_codec::{Blob, JournalRecord, Positive, Rows, write_records};
+use den_map::Map;
 use std::alloc::{AllocError, Global};
 
 /// What a cleanup removes, and the word of its region.

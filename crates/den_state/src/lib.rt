@@ -1,17 +1,13 @@
-//! The state machine: the map, its journal and its mark.
+//! The state machine: the map in memory over its journal in files, with the applied mark and the stored one.
 #![tactic(auto)]
 
-mod chunk;
 mod cleanup;
 mod file_machine;
-mod fold;
 mod holding;
 mod machine;
-mod map;
 mod marks;
 #[cfg(test)]
 mod rows;
-mod writes;
 
 pub use file_machine::{FileStateMachine, SnapshotMetadata};
 pub use machine::StateMachine;

@@ -4,7 +4,6 @@ ghost use Rattle.den_disk.specs.declared.place.Family.TheVariants.{State as stat
 ghost use Rattle.den_disk.specs.Files.{Files, Content, IsImage};
 ghost use Rattle.den_disk.specs.Goes.{Rose, DiskGoesOn};
 ghost use Rattle.den_disk.specs.Families.{SameOf, SparesOthers, SparesOwn, SparesImages, OldOrNew};
-ghost use Rattle.den_model.specs.declared.held.Held.{Held};
 ghost use Rattle.den_model.specs.MapState.{MapState, map_applied_all, results_of, part_of};
 ghost use Rattle.den_model.specs.Apply.{value_at};
 ghost use Rattle.den_model.specs.Sizes.{entries_size, store_rise};
@@ -15,11 +14,13 @@ ghost use Rattle.den_model.specs.declared.log_id.LogId.{LogId};
 ghost use Rattle.den_model.specs.Step.{pairs_under};
 ghost use Rattle.den_model.specs.Table.{by_bytes};
 ghost use Rattle.den_lease.specs.Due.{has_due};
+ghost use Rattle.den_map.specs.Leases.{lacks_lease, has_expiry};
+ghost use Rattle.den_map.specs.Order.{out_of_order};
+ghost use Rattle.den_map.specs.Scan.{keys_in};
 ghost use Rattle.den_state.specs.declared.file_machine.SnapshotMetadata.{SnapshotMetadata};
 ghost use Rattle.den_state.specs.Cleanup.{cleaned_where, removed_where};
-ghost use Rattle.den_state.specs.Scan.{keys_in};
 ghost use Rattle.den_state.specs.Machine.{IsWriteRefusal, IsSetAs, StaysAs};
-ghost use Rattle.den_state.specs.Chunk.{out_of_order, lacks_lease, has_expiry, IsChunkRefusal, Leaves, LeavesOrEnds};
+ghost use Rattle.den_state.specs.Chunk.{IsChunkRefusal, Leaves, LeavesOrEnds};
 
 use crate::SnapshotMetadata;
 use den_codec::{ApplyResult, Blob, Entry, Error, LogId, Rows, ScanResult};

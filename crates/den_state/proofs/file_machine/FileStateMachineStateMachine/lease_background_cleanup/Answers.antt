@@ -7,11 +7,11 @@ use Rattle.den_model.specs.declared.log_id.LogId.{LogId}
 use Rattle.den_model.specs.MapState.{MapState, map_after_payload}
 use Rattle.den_model.specs.Table.{by_bytes}
 use Rattle.den_lease.specs.Due.{has_due}
+use Rattle.den_map.specs.Cleanup.{cleaned_map}
+use Rattle.den_map.specs.Tail.{tail_after_payload}
 use Rattle.den_state.specs.declared.file_machine.FileStateMachine.{FileStateMachine}
-use Rattle.den_state.specs.Cleanup.{cleaned_map}
 use Rattle.den_gate.specs.Gate.{payloads}
 use Rattle.den_state.specs.Machine.{GivesMap, map_held, stored_map}
-use Rattle.den_state.specs.Tail.{tail_after_payload}
 use Rattle.den_state.proofs.Tails.{tail_appended}
 use Rattle.den_state.proofs.Cleaning.{nothing_cleaned, nothing_removed, due_cleaned}
 use Rattle.den_state.proofs.Resting.{held_still, images_still}

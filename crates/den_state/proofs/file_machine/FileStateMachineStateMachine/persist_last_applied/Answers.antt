@@ -1,10 +1,10 @@
 use Rattle.std.proofs.Common.{◌≡◌, ◌≤◌, ap, sym, subst, ◌∙◌, arith}
 use Rattle.den_disk.specs.declared.place.Family.TheVariants.{State}
 use Rattle.den_model.specs.MapState.{MapState, map_after_payload}
+use Rattle.den_map.specs.Tail.{tail_after_payload}
 use Rattle.den_state.specs.declared.file_machine.FileStateMachine.{FileStateMachine}
 use Rattle.den_gate.specs.Gate.{payloads}
 use Rattle.den_state.specs.Machine.{GivesMap, stored_map}
-use Rattle.den_state.specs.Tail.{tail_after_payload}
 use Rattle.den_state.proofs.Tails.{tail_appended}
 use Rattle.den_state.proofs.Resting.{held_still, images_still}
 use Rattle.den_state.proofs.file_machine.FileStateMachineStateMachine.persist_last_applied.Goals as goal

@@ -1,0 +1,43 @@
+-- What a fold over the journal promises.
+use Rattle.std.specs.Prelude.{◌≡◌, ℕ, Option, Some, None, Result, Ok, Err}
+use Rattle.den_model.specs.declared.log_id.LogId.{LogId}
+use Rattle.den_model.specs.declared.journal.JournalRecord.{JournalRecord}
+use Rattle.den_model.specs.declared.journal.JournalRecord.TheVariants.{Noop, Insert, Delete, CasFailed, Cleanup}
+use Rattle.den_model.specs.Apply.{kept_pairs, kept_expiries}
+use Rattle.den_model.specs.Table.{unset}
+use Rattle.den_model.specs.MapState.{MapState, with_pair}
+use Rattle.den_map.specs.declared.fold.FoldError.{FoldError}
+use Rattle.den_map.specs.declared.fold.FoldError.TheVariants.{Memory, Unlawful}
+use Rattle.den_map.specs.declared.fold.ListError.{ListError}
+use Rattle.den_map.specs.declared.fold.ListError.TheVariants as list_error
+
+-- it ends where the definition is lawful, with what the definition gives, unless memory ran out
+abbrev pub Folds : Result Unit FoldError → Option MapState → MapState → Type 0
+Folds (Ok done) given new = given ≡ Some new
+Folds (Err Memory) given new = Unit {0}
+Folds (Err Unlawful) given new = given ≡ None
+
+-- the same of a list, whose first unlawful payload has a place
+abbrev pub FoldsList : {A : Type 0} → Result A ListError → Result MapState ℕ → MapState → Type 0
+FoldsList (Ok done) given new = given ≡ Ok new
+FoldsList (Err list_error.Memory) given new = Unit {0}
+FoldsList (Err (list_error.Unlawful offset)) given new = given ≡ Err offset
+
+-- pairs and expiries after a record
+abbrev pub carried : MapState → JournalRecord → MapState
+carried s (Noop index term) = s
+carried s (Insert index term key value expiry) = with_pair s key value term expiry
+carried s (Delete index term key) = record s { pairs = unset s.pairs key; expiries = unset s.expiries key }
+carried s (CasFailed index term) = s
+carried s (Cleanup moment) = record s {
+  pairs = kept_pairs s.expiries moment s.pairs;
+  expiries = kept_expiries moment s.expiries;
+}
+
+-- the place of the entry that a record is of
+abbrev pub place_of : JournalRecord → Option LogId
+place_of (Noop index term) = Some (record { index = index; term = term })
+place_of (Insert index term key value expiry) = Some (record { index = index; term = term })
+place_of (Delete index term key) = Some (record { index = index; term = term })
+place_of (CasFailed index term) = Some (record { index = index; term = term })
+place_of (Cleanup moment) = None

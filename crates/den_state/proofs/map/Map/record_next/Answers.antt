@@ -1,9 +1,0 @@
-use Rattle.den_state.proofs.Applying.{entry_lawful}
-use Rattle.den_state.proofs.Overlay.{over_noted}
-use Rattle.den_state.proofs.map.Map.record_next.Goals as goal
-
-pub returns-clause-over : goal.returns-clause-over
-returns-clause-over c = λ s over. rw (c.in_ok-note.ensures, c.in_ok-journaled.ensures s over) (over_noted c.args.writes.now c.args.self.now s c.args.entry.now over)
-
-pub returns-clause-lawful : goal.returns-clause-lawful
-returns-clause-lawful c = λ s above same. rw same (entry_lawful s c.args.entry.now c.moment-moment.ensures.positive above)
