@@ -1,5 +1,5 @@
 //! The state machine in files.
-ghost use Rattle.std.specs.Prelude.{◌≡◌, ◌≤◌, ◌<◌, ◌+◌, ◌-◌, ◌*◌, ◌⊎◌, ◌^◌, ◌&&◌, min, max, ◌∷◌, ◌++◌, ℕ, List, [], true, false, None, Some, Ok, Err, IsTrue, IfSome, is_some, IfOk, IfErr, OnOk, OnErr, length};
+ghost use Rattle.std.specs.Prelude.{◌≡◌, ◌≤◌, ◌<◌, ◌+◌, ◌-◌, ◌*◌, ◌⊎◌, ◌^◌, ◌&&◌, min, max, ◌∷◌, ◌++◌, ℕ, [], true, false, None, Some, Ok, Err, IsTrue, IfSome, is_some, IfOk, IfErr, OnOk, OnErr, length};
 ghost use Rattle.den_disk.specs.declared.place.Family.TheVariants.{State as state_family};
 ghost use Rattle.den_disk.specs.Files.{Files};
 ghost use Rattle.den_disk.specs.Goes.{Rose, DiskGoesOn};
