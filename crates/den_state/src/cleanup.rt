@@ -5,8 +5,8 @@ ghost use Rattle.den_model.specs.MapState.{MapState, map_after_payload};
 ghost use Rattle.den_model.specs.Table.{by_bytes};
 ghost use Rattle.den_lease.specs.Due.{due_keys, has_due};
 ghost use Rattle.den_map.specs.Cleanup.{cleaned_map};
-ghost use Rattle.den_state.specs.Machine.{cleanup_word};
 ghost use Rattle.den_map.specs.Tail.{tail_after_payload};
+ghost use Rattle.den_state.specs.Machine.{cleanup_word};
 
 use crate::FileStateMachine;
 use den_codec::{Blob, JournalRecord, Positive, Rows, write_records};

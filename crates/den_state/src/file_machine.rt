@@ -1,24 +1,24 @@
 //! The state machine in files.
-ghost use Rattle.std.specs.Prelude.{◌≡◌, ◌≤◌, ◌<◌, ◌↔◌, ◌+◌, ◌-◌, ◌*◌, ◌⊎◌, ◌^◌, ◌&&◌, min, max, ◌∷◌, ◌++◌, ℕ, List, [], true, false, None, Some, Ok, Err, IsTrue, IfSome, is_some, IfOk, IfErr, OnOk, OnErr, length};
+ghost use Rattle.std.specs.Prelude.{◌≡◌, ◌≤◌, ◌<◌, ◌+◌, ◌-◌, ◌*◌, ◌⊎◌, ◌^◌, ◌&&◌, min, max, ◌∷◌, ◌++◌, ℕ, [], true, false, None, Some, Ok, Err, IsTrue, IfSome, is_some, IfOk, IfErr, OnOk, OnErr, length};
 ghost use Rattle.den_disk.specs.declared.place.Family.TheVariants.{State as state_family};
 ghost use Rattle.den_disk.specs.Files.{Files};
 ghost use Rattle.den_disk.specs.Goes.{Rose, DiskGoesOn};
 ghost use Rattle.den_disk.specs.Families.{SparesAll, SparesOthers, SparesImages, NoNewImages, OldOrNew};
 ghost use Rattle.den_model.specs.Image.{map_in};
 ghost use Rattle.den_model.specs.MapState.{MapState, map_applied_all, map_after_payload, map_after_records, results_of};
-ghost use Rattle.den_model.specs.declared.region.StateRegion.TheVariants.{Records};
 ghost use Rattle.den_model.specs.Sizes.{entries_size, family_size, store_rise};
-ghost use Rattle.den_model.specs.Spelling.{state_region_word};
 ghost use Rattle.den_codec.specs.Full.{IsHeavy};
 ghost use Rattle.den_gate.specs.Gate.{payloads, IsAtRest, IsCurrent};
 ghost use Rattle.den_model.specs.Table.{by_bytes};
+ghost use Rattle.den_model.specs.declared.region.StateRegion.TheVariants.{Records};
+ghost use Rattle.den_model.specs.Spelling.{state_region_word};
 ghost use Rattle.den_lease.specs.Due.{has_due};
 ghost use Rattle.std.specs.List.Sorted.{IsStrictlySortedBy};
 ghost use Rattle.den_map.specs.Leases.{lacks_lease};
 ghost use Rattle.den_map.specs.Order.{out_of_order};
+ghost use Rattle.den_map.specs.Journal.{all_recorded};
 ghost use Rattle.den_state.specs.Chunk.{IsChunkRefusal, Leaves, LeavesOrEnds};
 ghost use Rattle.den_state.specs.Cleanup.{cleaned_where, removed_where};
-ghost use Rattle.den_map.specs.Journal.{all_recorded};
 ghost use Rattle.den_state.specs.Machine.{HasShortTail, IsReady, GivesMap, Keeps, Rests, IsConfiguredAs, IsSetAs, IsDurable, IsFullFor, IsOpeningRefusal, IsWriteRefusal, OnUntouched, OnOutOfMemory, cleanup_word, journaled, map_held, mark_word, stored_map, state_error, state_weight};
 ghost use Rattle.den_state.specs.Laws.{rests_spared, keeps_spared, keeps_rested, keeps_settled, held_own, map_image, rests_image};
 

@@ -1,8 +1,8 @@
-//! The applied mark and the stored one.
+//! The applied mark, and the region that stores it.
 ghost use Rattle.std.specs.Prelude.{◌≡◌, ◌≤◌, ℕ, Some, IfOk, length};
 ghost use Rattle.den_model.specs.MapState.{MapState, map_after_payload};
-ghost use Rattle.den_state.specs.Machine.{mark_word};
 ghost use Rattle.den_map.specs.Tail.{tail_after_payload};
+ghost use Rattle.den_state.specs.Machine.{mark_word};
 
 use crate::FileStateMachine;
 use den_codec::{LogId, StateRegion, Word};
