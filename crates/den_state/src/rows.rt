@@ -1,9 +1,13 @@
-//! Worked rows: swaps, refusals, a cleanup, and random chunks beside a plain list of pairs.
-ghost use Rattle.std.specs.Prelude.{◌≡◌, [], IfSome, IfOk, OnOk};
+//! Worked rows: swaps, refusals, marks, a scan, leases, and the bytes of regions.
+ghost use Rattle.std.specs.Prelude.{◌≡◌, ◌≤◌, [], IfSome, IfOk, OnOk};
 ghost use Rattle.den_state.specs.Machine.{IsReady, Keeps};
 
-use crate::{FileStateMachine, StateMachine};
-use den_codec::{ApplyResult, Blob, Command, Entry, Error, LeaseConfig, LogId, Rows};
+mod random;
+
+use crate::{FileStateMachine, SnapshotMetadata, StateMachine};
+use den_codec::{
+    ApplyResult, Blob, Command, Entry, Error, KvEntry, LeaseConfig, LogId, Rows, ScanResult,
+};
 use den_disk::{Disk, Family, MemDisk, Part, Place};
 use den_lease::DefaultLease;
 use std::alloc::Global;
@@ -17,6 +21,10 @@ const CONFIG: LeaseConfig = LeaseConfig {
 
 const FIRST_KEY: u8 = b'a';
 
+const NO_MARK: LogId = LogId { index: 0, term: 0 };
+
+const MARK: LogId = LogId { index: 5, term: 2 };
+
 const SLOT: Place = Place {
     family: Family::State,
     part: Part::A,
@@ -29,6 +37,16 @@ const NOOP_REGION: &[u8] =
 // A region of one Insert of index 2 and term 1, of b at the key a: a record of 43 bytes.
 const INSERT_REGION: &[u8] =
     b"\x01\0\0\0\0\0\0\0\x34\x03\0\0\0\0\0\0\0\x01\0\0\0\0\0\0\0\x02\0\0\0\0\0\0\0\x01\x01\0\0\0\0\0\0\0\x01a\0\0\0\0\0\0\0\x01b\0\0\0\0\0\0\0\0";
+
+// A region of one Insert of index 1 and term 1, of b at the key a until 2000, and one of the cleanup at 2000.
+const EXPIRING_REGION: &[u8] =
+    b"\x01\0\0\0\0\0\0\0\x34\x03\0\0\0\0\0\0\0\x01\0\0\0\0\0\0\0\x01\0\0\0\0\0\0\0\x01\x01\0\0\0\0\0\0\0\x01a\0\0\0\0\0\0\0\x01b\0\0\0\0\0\0\x07\xd0";
+
+const CLEANUP_REGION: &[u8] =
+    b"\x01\0\0\0\0\0\0\0\x32\x03\0\0\0\0\0\0\0\x01\0\0\0\0\0\0\0\0\0\0\0\0\0\0\0\0\x06\0\0\0\0\0\0\0\0\0\0\0\0\0\0\0\0\0\0\0\0\0\0\x07\xd0";
+
+// A region that moves the mark to index 5 and term 2.
+const MARK_REGION: &[u8] = b"\x01\0\0\0\0\0\0\0\x11\x04\0\0\0\0\0\0\0\x05\0\0\0\0\0\0\0\x02";
 
 // What an entry does, where keys and values are single bytes.
 #[derive(Clone, Copy, Debug)]
@@ -75,12 +93,27 @@ fn command_of(alloc: Global, write: Write) -> Result<Command, Fail> {
     })
 }
 
-// Entries of term 1 at moment 1000. There is none of index 0.
+// Entries of term 1, each at a thousand times its index. There is none of index 0.
 fn entries_of(alloc: Global, writes: &[(u64, Write)]) -> Result<Vec<Entry>, Fail> {
     let mut entries = Vec::new(alloc);
     for (index, write) in writes {
         let index = if *index == 0 { 1 } else { *index };
-        entries.push(Entry::of(index, 1, 1000, command_of(alloc, *write)?))?;
+        let moment = index.saturating_mul(1000);
+        entries.push(Entry::of(index, 1, moment, command_of(alloc, *write)?))?;
+    }
+    Ok(entries)
+}
+
+// Puts of term 1, the first of index 1.
+fn puts_of(alloc: Global, pairs: &[(&str, &str)]) -> Result<Vec<Entry>, Fail> {
+    let mut entries = Vec::new(alloc);
+    for (place, (key, value)) in pairs.iter().enumerate() {
+        let command = Command::Insert {
+            key: Blob::of(alloc, key.as_bytes())?,
+            value: Blob::of(alloc, value.as_bytes())?,
+            ttl_secs: None,
+        };
+        entries.push(Entry::of(place as u64 + 1, 1, 1000, command))?;
     }
     Ok(entries)
 }
@@ -115,31 +148,36 @@ impl Bench {
         })
     }
 
-    // Opened anew after a crash, with a lease where it had one.
-    fn crashed(self, choice: u64) -> Result<Bench, Fail>
+    // Opened anew after a crash, with a lease or without one.
+    fn crashed_to(self, choice: u64, leased: bool) -> Result<Bench, Fail>
         ensures ready { IfOk result (λ b. IsReady b.machine) }
         ensures keeps { IfOk result (λ b. Keeps b.machine (⟦<MemDisk as Disk>⟧.content b.disk)) }
     {
         let Bench {
             alloc,
             mut disk,
-            machine,
+            ..
         } = self;
         disk.crash(choice);
-        Bench::open(alloc, disk, machine.leased)
+        Bench::open(alloc, disk, leased)
     }
 
-    // A crash after each tenth turn.
-    fn rested(self, turn: u64) -> Result<Bench, Fail>
-        requires ready { IsReady self.machine }
-        requires keeps { Keeps self.machine (⟦<MemDisk as Disk>⟧.content self.disk) }
+    // The same with a lease where it had one.
+    fn crashed(self, choice: u64) -> Result<Bench, Fail>
         ensures ready { IfOk result (λ b. IsReady b.machine) }
         ensures keeps { IfOk result (λ b. Keeps b.machine (⟦<MemDisk as Disk>⟧.content b.disk)) }
     {
-        if turn % 10 == 0 {
-            return self.crashed(turn / 10 % 3);
-        }
-        Ok(self)
+        let leased = self.machine.leased;
+        self.crashed_to(choice, leased)
+    }
+
+    fn apply_entries(&mut self, chunk: &[Entry]) -> Result<Rows<ApplyResult>, Fail>
+        requires ready { IsReady self.old.machine }
+        requires keeps { Keeps self.old.machine (⟦<MemDisk as Disk>⟧.content self.old.disk) }
+        ensures ready { OnOk result (IsReady self.new.machine) }
+        ensures keeps { OnOk result (Keeps self.new.machine (⟦<MemDisk as Disk>⟧.content self.new.disk)) }
+    {
+        Ok(self.machine.apply_chunk(&mut self.disk, chunk)?)
     }
 
     fn apply(&mut self, writes: &[(u64, Write)]) -> Result<Rows<ApplyResult>, Fail>
@@ -149,7 +187,7 @@ impl Bench {
         ensures keeps { OnOk result (Keeps self.new.machine (⟦<MemDisk as Disk>⟧.content self.new.disk)) }
     {
         let chunk = entries_of(self.alloc, writes)?;
-        Ok(self.machine.apply_chunk(&mut self.disk, chunk.as_slice())?)
+        self.apply_entries(chunk.as_slice())
     }
 
     // Why these entries are refused.
@@ -165,18 +203,93 @@ impl Bench {
         )
     }
 
+    // The mark, or one of its term at the applied index where that is above it.
+    fn raised(&self, mark: LogId) -> LogId
+        ensures { self.now.machine.map.mark.index ≤ result.index }
+    {
+        LogId {
+            index: mark.index.max(self.last_applied().index),
+            term: mark.term,
+        }
+    }
+
     // Moves the applied mark, in memory alone, and never down.
-    fn move_mark(&mut self, index: u64)
+    fn move_mark(&mut self, mark: LogId)
         requires ready { IsReady self.old.machine }
         requires keeps { Keeps self.old.machine (⟦<MemDisk as Disk>⟧.content self.old.disk) }
         ensures ready { IsReady self.new.machine }
         ensures keeps { Keeps self.new.machine (⟦<MemDisk as Disk>⟧.content self.new.disk) }
     {
-        let last_applied = LogId {
-            index: index.max(self.last_applied().index),
-            term: 1,
-        };
+        let last_applied = self.raised(mark);
         StateMachine::<MemDisk>::update_last_applied(&mut self.machine, last_applied);
+    }
+
+    // Moves the applied mark and the stored one, never down.
+    fn persist_mark(&mut self, mark: LogId) -> Result<(), Fail>
+        requires ready { IsReady self.old.machine }
+        requires keeps { Keeps self.old.machine (⟦<MemDisk as Disk>⟧.content self.old.disk) }
+    {
+        let last_applied = self.raised(mark);
+        self.machine
+            .persist_last_applied(&mut self.disk, last_applied)?;
+        Ok(())
+    }
+
+    fn save(&mut self) -> Result<(), Fail>
+        requires ready { IsReady self.old.machine }
+        requires keeps { Keeps self.old.machine (⟦<MemDisk as Disk>⟧.content self.old.disk) }
+    {
+        self.machine.save_hard_state(&mut self.disk)?;
+        Ok(())
+    }
+
+    // Opened anew without a lease, after its close and a crash.
+    fn closed(self) -> Result<Bench, Fail>
+        requires ready { IsReady self.machine }
+        requires keeps { Keeps self.machine (⟦<MemDisk as Disk>⟧.content self.disk) }
+        ensures ready { IfOk result (λ b. IsReady b.machine) }
+        ensures keeps { IfOk result (λ b. Keeps b.machine (⟦<MemDisk as Disk>⟧.content b.disk)) }
+    {
+        let Bench {
+            alloc,
+            mut disk,
+            machine,
+        } = self;
+        machine.close(&mut disk)?;
+        disk.crash(0);
+        Bench::open(alloc, disk, false)
+    }
+
+    // Moves the mark and stores it, and opens anew without a lease after a crash.
+    fn with_mark(mut self, mark: LogId, storing: Storing) -> Result<Bench, Fail>
+        requires ready { IsReady self.machine }
+        requires keeps { Keeps self.machine (⟦<MemDisk as Disk>⟧.content self.disk) }
+        ensures ready { IfOk result (λ b. IsReady b.machine) }
+        ensures keeps { IfOk result (λ b. Keeps b.machine (⟦<MemDisk as Disk>⟧.content b.disk)) }
+    {
+        match storing {
+            Storing::Persist => self.persist_mark(mark)?,
+            Storing::Save => {
+                self.move_mark(mark);
+                self.save()?;
+            }
+            Storing::Close => {
+                self.move_mark(mark);
+                return self.closed();
+            }
+        }
+        self.crashed_to(0, false)
+    }
+
+    fn set_lease(&mut self)
+        requires ready { IsReady self.old.machine }
+        requires keeps { Keeps self.old.machine (⟦<MemDisk as Disk>⟧.content self.old.disk) }
+        ensures ready { IsReady self.new.machine }
+        ensures keeps { Keeps self.new.machine (⟦<MemDisk as Disk>⟧.content self.new.disk) }
+    {
+        self.machine
+            .set_lease(DefaultLease::new(self.alloc, CONFIG));
+        self.machine.load_lease_data();
     }
 
     fn clean_up(&mut self, now: u64) -> Result<Rows<Blob>, Fail>
@@ -196,10 +309,18 @@ impl Bench {
         StateMachine::<MemDisk>::len(&self.machine)
     }
 
+    fn holds_expiry(&self) -> bool {
+        StateMachine::<MemDisk>::holds_expiry(&self.machine)
+    }
+
     fn last_applied(&self) -> LogId
         ensures { result ≡ self.now.machine.map.mark }
     {
         StateMachine::<MemDisk>::last_applied(&self.machine)
+    }
+
+    fn slot(&self) -> &[u8] {
+        self.disk.get(SLOT)
     }
 
     // Whether it has this value at this key.
@@ -211,130 +332,19 @@ impl Bench {
         }
     }
 
-    // Whether it answers what a plain map answers.
-    fn answers(&self, plain: &Plain) -> bool {
-        for key in FIRST_KEY..FIRST_KEY + 6 {
-            if !self.has(key, plain.get(key)) {
-                return false;
-            }
-        }
-        let last = LogId {
-            index: plain.last,
-            term: if plain.last == 0 { 0 } else { 1 },
-        };
-        self.len() == plain.pairs.len() && self.last_applied() == last
+    // Whether it holds nothing, and its slot has no byte.
+    fn is_untouched(&self) -> bool {
+        let empty = StateMachine::<MemDisk>::is_empty(&self.machine) && !self.holds_expiry();
+        empty && self.last_applied() == NO_MARK && self.slot().is_empty()
     }
 }
 
-// A map as pairs of a key and a value, written anew and plainly.
-#[derive(Drop)]
-struct Plain {
-    pairs: Vec<(u8, u8)>,
-    last: u64,
-}
-
-impl Plain {
-    fn get(&self, key: u8) -> Option<u8> {
-        for pair in self.pairs.as_slice() {
-            if pair.0 == key {
-                return Some(pair.1);
-            }
-        }
-        None
-    }
-
-    fn delete(&mut self, key: u8) {
-        self.pairs.retain(|pair| pair.0 != key);
-    }
-
-    fn insert(&mut self, key: u8, value: u8) -> Result<(), Fail> {
-        self.delete(key);
-        self.pairs.push((key, value))?;
-        Ok(())
-    }
-
-    // Whether the write succeeded.
-    fn make(&mut self, write: Write) -> Result<bool, Fail> {
-        match write {
-            Write::Noop => {}
-            Write::Insert(key, value) | Write::Expiring(key, value, _) => {
-                self.insert(key, value)?
-            }
-            Write::Delete(key) => self.delete(key),
-            Write::Swap(key, expected, value) => {
-                if self.get(key) != expected {
-                    return Ok(false);
-                }
-                self.insert(key, value)?;
-            }
-        }
-        Ok(true)
-    }
-
-    fn apply(&mut self, alloc: Global, writes: &[(u64, Write)]) -> Result<Vec<ApplyResult>, Fail> {
-        let mut results = Vec::new(alloc);
-        for (index, write) in writes {
-            let succeeded = self.make(*write)?;
-            results.push(ApplyResult {
-                index: *index,
-                succeeded,
-            })?;
-            self.last = *index;
-        }
-        Ok(results)
-    }
-}
-
-// Numbers that follow from a seed.
-#[derive(Drop)]
-struct Draws {
-    state: u64,
-}
-
-impl Draws {
-    fn next(&mut self) -> u64 {
-        self.state = self
-            .state
-            .wrapping_mul(6_364_136_223_846_793_005)
-            .wrapping_add(1_442_695_040_888_963_407);
-        self.state >> 33
-    }
-
-    fn key(&mut self) -> u8 {
-        FIRST_KEY + (self.next() % 5) as u8
-    }
-
-    fn value(&mut self) -> u8 {
-        (self.next() % 3) as u8
-    }
-
-    fn expected(&mut self) -> Option<u8> {
-        if self.next() % 4 == 0 {
-            return None;
-        }
-        Some(self.value())
-    }
-
-    fn write(&mut self) -> Write {
-        match self.next() % 8 {
-            0 => Write::Noop,
-            1..3 => Write::Delete(self.key()),
-            3 => Write::Insert(self.key(), self.value()),
-            4 => Write::Expiring(self.key(), self.value(), 1),
-            _ => Write::Swap(self.key(), self.expected(), self.value()),
-        }
-    }
-
-    // One to three writes whose indices rise above this one.
-    fn chunk(&mut self, alloc: Global, last: u64) -> Result<Vec<(u64, Write)>, Fail> {
-        let mut writes = Vec::new(alloc);
-        let mut index = last;
-        for _ in 0..1 + self.next() % 3 {
-            index = index.saturating_add(1 + self.next() % 2);
-            writes.push((index, self.write()))?;
-        }
-        Ok(writes)
-    }
+// A call that stores the applied mark.
+#[derive(Clone, Copy, Debug)]
+enum Storing {
+    Persist,
+    Save,
+    Close,
 }
 
 #[test]
@@ -360,7 +370,7 @@ fn refuses_a_time_to_live_without_a_lease(rt: HostRuntime) -> Result<(), Fail> {
     let mut bench = Bench::open(alloc, MemDisk::new(alloc), false)?;
     let refusal = bench.refusal(&[(1, Write::Expiring(b'a', b'b', 5))])?;
     assert_eq!(rt; refusal, Some(Error::FeatureNotEnabled));
-    assert_eq!(rt; bench.len(), 0);
+    assert!(rt; bench.is_untouched());
     Ok(())
 }
 
@@ -373,7 +383,7 @@ fn refuses_a_repeated_index(rt: HostRuntime) -> Result<(), Fail> {
         (2, Write::Insert(b'a', b'c')),
     ])?;
     assert_eq!(rt; refusal, Some(Error::UnorderedChunk { index: 2 }));
-    assert_eq!(rt; bench.len(), 0);
+    assert!(rt; bench.is_untouched());
     Ok(())
 }
 
@@ -382,11 +392,11 @@ fn applies_behind_a_mark_that_is_not_stored(rt: HostRuntime) -> Result<(), Fail>
     let alloc = rt.alloc();
     let mut bench = Bench::open(alloc, MemDisk::new(alloc), false)?;
     bench.apply(&[(1, Write::Insert(b'a', b'b'))])?;
-    bench.move_mark(5);
+    bench.move_mark(MARK);
     let bench = bench.crashed(0)?;
     assert_eq!(rt; bench.last_applied(), LogId { index: 1, term: 1 });
     let mut bench = bench;
-    bench.move_mark(5);
+    bench.move_mark(MARK);
     let results = bench.apply(&[(6, Write::Insert(b'b', b'c'))])?;
     let wanted = [ApplyResult {
         index: 6,
@@ -400,12 +410,30 @@ fn applies_behind_a_mark_that_is_not_stored(rt: HostRuntime) -> Result<(), Fail>
 }
 
 #[test]
-fn refuses_an_index_below_a_mark_that_is_not_stored(rt: HostRuntime) -> Result<(), Fail> {
+fn refuses_an_index_at_a_mark_that_is_not_stored(rt: HostRuntime) -> Result<(), Fail> {
     let alloc = rt.alloc();
     let mut bench = Bench::open(alloc, MemDisk::new(alloc), false)?;
-    bench.move_mark(5);
+    bench.move_mark(MARK);
     let refusal = bench.refusal(&[(5, Write::Insert(b'a', b'b'))])?;
     assert_eq!(rt; refusal, Some(Error::UnorderedChunk { index: 5 }));
+    assert!(rt; bench.slot().is_empty());
+    Ok(())
+}
+
+// A mark that is stored is not written again.
+#[test]
+fn stores_the_mark(rt: HostRuntime) -> Result<(), Fail> {
+    let alloc = rt.alloc();
+    for storing in [Storing::Persist, Storing::Save, Storing::Close] {
+        let mut bench = Bench::open(alloc, MemDisk::new(alloc), false)?;
+        bench.apply(&[(1, Write::Noop)])?;
+        let mut bench = bench.with_mark(MARK, storing)?;
+        assert_eq!(rt; bench.last_applied(), MARK, "{storing:?}");
+        bench.save()?;
+        assert_eq!(rt; bench.slot().get(..59), Some(NOOP_REGION));
+        assert_eq!(rt; bench.slot().get(59..85), Some(MARK_REGION));
+        assert_eq!(rt; bench.slot().get(85), Some(&0), "{storing:?}");
+    }
     Ok(())
 }
 
@@ -416,15 +444,16 @@ fn writes_a_region_of_one_record(rt: HostRuntime) -> Result<(), Fail> {
     let alloc = rt.alloc();
     let mut bench = Bench::open(alloc, MemDisk::new(alloc), false)?;
     bench.apply(&[(1, Write::Noop)])?;
-    assert_eq!(rt; bench.disk.get(SLOT).get(..59), Some(NOOP_REGION));
-    assert_eq!(rt; bench.disk.get(SLOT).get(59), Some(&0));
+    assert_eq!(rt; bench.slot().get(..59), Some(NOOP_REGION));
+    assert_eq!(rt; bench.slot().get(59), Some(&0));
     bench.apply(&[(2, Write::Insert(b'a', b'b'))])?;
-    assert_eq!(rt; bench.disk.get(SLOT).get(..59), Some(NOOP_REGION));
-    assert_eq!(rt; bench.disk.get(SLOT).get(59..120), Some(INSERT_REGION));
-    assert_eq!(rt; bench.disk.get(SLOT).get(120), Some(&0));
+    assert_eq!(rt; bench.slot().get(..59), Some(NOOP_REGION));
+    assert_eq!(rt; bench.slot().get(59..120), Some(INSERT_REGION));
+    assert_eq!(rt; bench.slot().get(120), Some(&0));
     Ok(())
 }
 
+// A cleanup is a region of one record of 41 bytes. One that removes nothing is none.
 #[test]
 fn records_a_cleanup(rt: HostRuntime) -> Result<(), Fail> {
     let alloc = rt.alloc();
@@ -432,35 +461,103 @@ fn records_a_cleanup(rt: HostRuntime) -> Result<(), Fail> {
     bench.apply(&[(1, Write::Expiring(b'a', b'b', 1))])?;
     let none = bench.clean_up(1999)?;
     assert!(rt; none.as_slice().is_empty());
+    assert_eq!(rt; bench.slot().get(61), Some(&0));
     let gone = bench.clean_up(2000)?;
     assert_eq!(rt; gone.as_slice(), [blob(alloc, b'a')?].as_slice());
     let bench = bench.crashed(0)?;
     assert_eq!(rt; bench.len(), 0);
     assert_eq!(rt; bench.last_applied(), LogId { index: 1, term: 1 });
+    assert_eq!(rt; bench.slot().get(..61), Some(EXPIRING_REGION));
+    assert_eq!(rt; bench.slot().get(61..120), Some(CLEANUP_REGION));
+    assert_eq!(rt; bench.slot().get(120), Some(&0));
     Ok(())
 }
 
 #[test]
-fn random_chunks(rt: HostRuntime) -> Result<(), Fail> {
+fn keeps_expiries_without_a_lease(rt: HostRuntime) -> Result<(), Fail> {
     let alloc = rt.alloc();
     let mut bench = Bench::open(alloc, MemDisk::new(alloc), true)?;
-    let mut plain = Plain {
-        pairs: Vec::new(alloc),
-        last: 0,
-    };
-    let mut draws = Draws { state: 1 };
-    for turn in 1..91 {
-        let writes = draws.chunk(alloc, plain.last)?;
-        let wanted = plain.apply(alloc, writes.as_slice())?;
-        let results = bench.apply(writes.as_slice())?;
-        assert_eq!(rt;
-            results.as_slice(),
-            wanted.as_slice(),
-            "of chunk {turn}, {writes:?}"
-        );
-        assert!(rt; bench.answers(&plain), "after chunk {turn}, {writes:?}");
-        bench = bench.rested(turn)?;
-        assert!(rt; bench.answers(&plain), "opened after chunk {turn}");
+    bench.apply(&[(1, Write::Expiring(b'a', b'b', 1))])?;
+    let mut bench = bench.crashed_to(0, false)?;
+    assert!(rt; !StateMachine::<MemDisk>::has_lease(&bench.machine));
+    assert!(rt; bench.holds_expiry());
+    assert!(rt; bench.clean_up(2000)?.as_slice().is_empty());
+    assert!(rt; bench.has(b'a', Some(b'b')) && bench.holds_expiry());
+    assert_eq!(rt; bench.slot().get(61), Some(&0));
+    bench.set_lease();
+    assert!(rt; StateMachine::<MemDisk>::has_lease(&bench.machine));
+    assert!(rt; bench.clean_up(1999)?.as_slice().is_empty());
+    let gone = bench.clean_up(2000)?;
+    assert_eq!(rt; gone.as_slice(), [blob(alloc, b'a')?].as_slice());
+    assert!(rt; bench.len() == 0 && !bench.holds_expiry());
+    Ok(())
+}
+
+// A scan's pairs.
+fn pairs_of(alloc: Global, pairs: &[(&str, &str)]) -> Result<Rows<KvEntry>, Fail> {
+    let mut entries = Vec::new(alloc);
+    for (key, value) in pairs {
+        entries.push(KvEntry {
+            key: Blob::of(alloc, key.as_bytes())?,
+            value: Blob::of(alloc, value.as_bytes())?,
+        })?;
     }
+    Ok(Rows::of(entries))
+}
+
+#[test]
+fn scans_a_prefix(rt: HostRuntime) -> Result<(), Fail> {
+    let alloc = rt.alloc();
+    let mut bench = Bench::open(alloc, MemDisk::new(alloc), false)?;
+    let chunk = puts_of(alloc, &[("ab", "1"), ("b", "2"), ("aa", "3")])?;
+    bench.apply_entries(chunk.as_slice())?;
+    let cases: [(&str, &[(&str, &str)]); 4] = [
+        ("a", &[("aa", "3"), ("ab", "1")]),
+        ("ab", &[("ab", "1")]),
+        ("abc", &[]),
+        ("", &[("aa", "3"), ("ab", "1"), ("b", "2")]),
+    ];
+    for (prefix, pairs) in cases {
+        let scan = StateMachine::<MemDisk>::scan_prefix(&bench.machine, prefix.as_bytes())?;
+        let wanted = ScanResult {
+            entries: pairs_of(alloc, pairs)?,
+            revision: 3,
+        };
+        assert_eq!(rt; scan, wanted, "at {prefix}");
+    }
+    Ok(())
+}
+
+fn said(index: u64) -> SnapshotMetadata {
+    SnapshotMetadata {
+        last_included: Some(LogId { index, term: 1 }),
+        checksum: [7; 32],
+    }
+}
+
+#[test]
+fn flag_and_metadata(rt: HostRuntime) -> Result<(), Fail> {
+    let alloc = rt.alloc();
+    let mut bench = Bench::open(alloc, MemDisk::new(alloc), false)?;
+    let machine = &mut bench.machine;
+    assert!(rt; StateMachine::<MemDisk>::is_running(machine));
+    StateMachine::<MemDisk>::stop(machine);
+    assert!(rt; !StateMachine::<MemDisk>::is_running(machine));
+    StateMachine::<MemDisk>::start(machine);
+    assert!(rt; StateMachine::<MemDisk>::is_running(machine));
+    assert_eq!(rt; StateMachine::<MemDisk>::snapshot_metadata(machine), None);
+    StateMachine::<MemDisk>::update_last_snapshot_metadata(machine, said(3));
+    assert_eq!(rt;
+        StateMachine::<MemDisk>::snapshot_metadata(machine),
+        Some(said(3))
+    );
+    StateMachine::<MemDisk>::persist_last_snapshot_metadata(machine, said(4));
+    assert_eq!(rt;
+        StateMachine::<MemDisk>::snapshot_metadata(machine),
+        Some(said(4))
+    );
+    assert_eq!(rt; StateMachine::<MemDisk>::entry_term(machine, 0), None);
+    assert!(rt; !StateMachine::<MemDisk>::is_failed(machine));
+    assert!(rt; bench.is_untouched());
     Ok(())
 }
