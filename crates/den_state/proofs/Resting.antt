@@ -1,5 +1,5 @@
 -- What the calls of a state machine in files leave of its files.
-use Rattle.std.proofs.Common.{◌≡◌, inl, ◌↔◌, ℕ, ◌<◌, ◌^◌, IsTrue, Bool, List, [], ◌∷◌, ◌++◌, length, Some, Result, Ok, Err, OnOk, refl, sym, ap, subst, ◌∙◌, arith}
+use Rattle.std.proofs.Common.{◌≡◌, inl, ◌↔◌, ℕ, ◌<◌, ◌^◌, IsTrue, Bool, List, [], ◌∷◌, ◌++◌, length, Some, Result, Ok, Err, IfErr, OnOk, refl, sym, ap, subst, ◌∙◌, arith}
 use Rattle.den_disk.specs.declared.place.Family.{Family}
 use Rattle.den_disk.specs.declared.place.Family.TheVariants as family
 use Rattle.den_disk.specs.declared.place.Part.{Part}
@@ -18,7 +18,7 @@ use Rattle.den_gate.specs.Gate.{payloads, IsAtRest, IsCurrent, KeepsOrAddsFamily
 use Rattle.den_gate.proofs.Families.{rest_list, adds_meaning}
 use Rattle.den_map.proofs.Lists.{list_push}
 use Rattle.den_state.specs.Chunk.{Leaves, LeavesOrEnds}
-use Rattle.den_state.specs.Machine.{GivesMap, map_held, IsOpeningRefusal, IsWriteRefusal}
+use Rattle.den_state.specs.Machine.{GivesMap, map_held, IsOpeningRefusal, IsWriteRefusal, OnOutOfMemory}
 use Rattle.den_state.specs.Laws.{map_of_list, map_own, list_means, map_image}
 
 -- ---- no call of the disk
@@ -78,6 +78,19 @@ pub write_leaves : (untouched ended rose : Type 0) (most : ℕ) (e : Error) → 
 write_leaves untouched ended rose most error.StorageIoError refused end = end
 write_leaves untouched ended rose most (error.DiskFull needed limit) refused end = end
 write_leaves untouched ended rose most _ refused end = absurd refused
+
+-- what holds holds also where memory is wanting
+pub on_memory : (P : Type 0) (e : Error) → P → OnOutOfMemory P e
+on_memory P error.OutOfMemory p = p
+on_memory P _ p = tt
+
+pub memory_gives : {A : Type 0} (r : Result A Error) (P : Type 0) → P → IfErr r (OnOutOfMemory P)
+memory_gives (Ok x) P p = tt
+memory_gives (Err e) P p = on_memory P e p
+
+pub leaves_memory : (untouched ended : Type 0) (e : Error) → Leaves untouched ended e → OnOutOfMemory untouched e
+leaves_memory untouched ended error.OutOfMemory leaves = leaves
+leaves_memory untouched ended _ leaves = tt
 
 -- what two facts of a success give
 pub both_ok : {A B P Q R : Type 0} (r : Result A B) → (P → Q → R) → OnOk r P → OnOk r Q → OnOk r R

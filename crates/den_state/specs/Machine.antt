@@ -103,12 +103,6 @@ state_error gate_error.StorageIoError = error.StorageIoError
 state_error (gate_error.Full needed limit) = error.DiskFull needed limit
 state_error (gate_error.DataCorruption part offset) = error.DataCorruption (place_number (record { family = family.State; part = part })) offset
 
--- a fact of the refusals that come before anything is done: of a chunk out of order, or with a time to live
-abbrev pub OnUntouched : Type 0 → Error → Type 0
-OnUntouched P (error.UnorderedChunk index) = P
-OnUntouched P error.FeatureNotEnabled = P
-OnUntouched P _ = Unit {0}
-
 -- a fact of want of memory
 abbrev pub OnOutOfMemory : Type 0 → Error → Type 0
 OnOutOfMemory P error.OutOfMemory = P

@@ -19,7 +19,7 @@ ghost use Rattle.den_map.specs.Order.{out_of_order};
 ghost use Rattle.den_map.specs.Journal.{all_recorded};
 ghost use Rattle.den_state.specs.Chunk.{IsChunkRefusal, Leaves, LeavesOrEnds};
 ghost use Rattle.den_state.specs.Cleanup.{cleaned_where, removed_where};
-ghost use Rattle.den_state.specs.Machine.{HasShortTail, IsReady, GivesMap, Keeps, Rests, IsConfiguredAs, IsSetAs, IsDurable, IsFullFor, IsOpeningRefusal, IsWriteRefusal, OnUntouched, OnOutOfMemory, cleanup_word, journaled, map_held, mark_word, stored_map, state_error, state_weight};
+ghost use Rattle.den_state.specs.Machine.{HasShortTail, IsReady, GivesMap, Keeps, Rests, IsConfiguredAs, IsSetAs, IsDurable, IsFullFor, IsOpeningRefusal, IsWriteRefusal, OnOutOfMemory, cleanup_word, journaled, map_held, mark_word, stored_map, state_error, state_weight};
 ghost use Rattle.den_state.specs.Laws.{rests_spared, keeps_spared, keeps_rested, keeps_settled, held_own, map_image, rests_image};
 
 use crate::StateMachine;
@@ -135,7 +135,7 @@ impl FileStateMachine {
     }
 
     // Adds a region to the journal. Where that is refused it has failed. It takes no memory.
-    pub(crate) fn append<D: Disk>(&mut self, disk: &mut D, payload: &[u8]) -> Result<(), Error>
+    fn append<D: Disk>(&mut self, disk: &mut D, payload: &[u8]) -> Result<(), Error>
         requires ready { (self.old).gate.failed ≡ false }
         requires at_rest { IsTrue (D.kind disk.old).tells → IsAtRest (self.old).gate (D.content disk.old) }
         requires current { IsTrue (D.kind disk.old).tells → IsCurrent (self.old).gate.slot (D.content disk.old) }
@@ -172,7 +172,8 @@ impl FileStateMachine {
         }
     }
 
-    // Takes on the records of entries, which the files hold by now, and its place. Where memory is wanting it has failed.
+    // Takes on the records of entries, which the files hold by now, and the last one's mark. Where memory is wanting it has
+    // failed.
     fn take_on(&mut self, chunk: &[Entry], records: &[JournalRecord]) -> Result<(), AllocError>
         requires { map_after_records (self.old).map records.now ≡ Some (map_applied_all (self.old).map chunk.now) }
         ensures map { OnOk result ((self.new).map ≡ map_applied_all (self.old).map chunk.now) }
@@ -214,7 +215,7 @@ impl FileStateMachine {
         ensures slot { (self.new).gate.slot ≡ (self.old).gate.slot }
         ensures failed { IfErr result (LeavesOrEnds ((self.new ≡ self.old) × (disk.new ≡ disk.old)) (IsReady self.new → ⊥)) }
         ensures out_of_memory { IfErr result (OnOutOfMemory (((self.new ≡ self.old) × (disk.new ≡ disk.old)) ⊎ (((self.new).failed ≡ true) × (IsTrue (D.kind disk.old).tells →
-            payloads (self.new).gate (D.content disk.new).reading ≡ payloads (self.old).gate (D.content disk.old).reading ++ journaled (self.old).map chunk.now)))) }
+            GivesMap (self.new).gate (map_applied_all (self.old).map chunk.now) (D.content disk.new))))) }
         ensures refused { IfErr result (IsWriteRefusal (Unit {0}) (Rose (D.faults disk.old) (D.faults disk.new)) (D.kind disk.old).limit) }
         ensures full { IfErr result (IsFullFor self.old (D.kind disk.old).tells (D.content disk.old) (length (state_region_word (Records (all_recorded (self.old).map chunk.now))))) }
         ensures heavy { IfErr result (IsHeavy (D.kind disk.old).limit (state_weight self.old + store_rise (entries_size chunk.now))) }
@@ -268,8 +269,8 @@ impl<D: Disk> StateMachine<D> for FileStateMachine {
     ghost keeps_rest = { keeps_settled };
 
     /// A chunk that is refused for its order or for want of a lease leaves all as it was, as does one without entries.
-    /// Any other adds one region to the journal. Where memory was wanting it is as it was, or has failed with the region on
-    /// the disk.
+    /// Any other adds one region to the journal. Where memory was wanting it is as it was, or has failed with the chunk
+    /// in its files.
     fn apply_chunk(&mut self, disk: &mut D, chunk: &[Entry]) -> Result<Rows<ApplyResult>, Error>
         requires ready { IsReady self.old }
         requires keeps { IsTrue (D.kind disk.old).tells → Keeps self.old (D.content disk.old) }
@@ -281,6 +282,7 @@ impl<D: Disk> StateMachine<D> for FileStateMachine {
         ensures results { IfOk result (λ results. results ≡ results_of (self.old).map chunk.now) }
         ensures in_order { OnOk result ((out_of_order (self.old).map.mark.index chunk.now ≡ None) × (lacks_lease (self.old).leased chunk.now ≡ false)) }
         ensures nothing { chunk.now ≡ [] → (self.new ≡ self.old) × (disk.new ≡ disk.old) }
+        ensures free { chunk.now ≡ [] → IfErr result (λ _. ⊥) }
         ensures stored { OnOk result (1 ≤ length chunk.now → (self.new).stored ≡ (self.new).map.mark) }
         ensures lease { (self.new).leased ≡ (self.old).leased }
         ensures set { IsSetAs (self.old).running (self.old).metadata (self.new).running (self.new).metadata }
@@ -292,10 +294,9 @@ impl<D: Disk> StateMachine<D> for FileStateMachine {
         ensures full { IfErr result (IsFullFor self.old (D.kind disk.old).tells (D.content disk.old) (length (state_region_word (Records (all_recorded (self.old).map chunk.now))))) }
         ensures heavy { IfErr result (IsHeavy (D.kind disk.old).limit (state_weight self.old + store_rise (entries_size chunk.now))) }
         ensures failed { IfErr result (LeavesOrEnds ((self.new ≡ self.old) × (disk.new ≡ disk.old)) (IsReady self.new → ⊥)) }
-        ensures untouched { IfErr result (OnUntouched ((self.new ≡ self.old) × (disk.new ≡ disk.old))) }
         ensures slot { (self.new).gate.slot ≡ (self.old).gate.slot }
         ensures out_of_memory { IfErr result (OnOutOfMemory (((self.new ≡ self.old) × (disk.new ≡ disk.old)) ⊎ (((self.new).failed ≡ true) × (IsTrue (D.kind disk.old).tells →
-            payloads (self.new).gate (D.content disk.new).reading ≡ payloads (self.old).gate (D.content disk.old).reading ++ journaled (self.old).map chunk.now)))) }
+            GivesMap (self.new).gate (map_applied_all (self.old).map chunk.now) (D.content disk.new))))) }
         ensures appended { OnOk result (IsTrue (D.kind disk.old).tells →
             payloads (self.new).gate (D.content disk.new).reading ≡ payloads (self.old).gate (D.content disk.old).reading ++ journaled (self.old).map chunk.now) }
     {
@@ -357,6 +358,7 @@ impl<D: Disk> StateMachine<D> for FileStateMachine {
         ensures spares { IsTrue (D.kind disk.old).tells → SparesOthers state_family (D.content disk.old) (D.content disk.new) }
         ensures map { OnOk result ((self.new).map ≡ (self.old).map) }
         ensures nothing { (self.old).stored ≡ (self.old).map.mark → (self.new ≡ self.old) × (disk.new ≡ disk.old) }
+        ensures free { (self.old).stored ≡ (self.old).map.mark → IfErr result (λ _. ⊥) }
         ensures stored { OnOk result ((self.new).stored ≡ (self.old).map.mark) }
         ensures lease { (self.new).leased ≡ (self.old).leased }
         ensures set { IsSetAs (self.old).running (self.old).metadata (self.new).running (self.new).metadata }
@@ -389,6 +391,8 @@ impl<D: Disk> StateMachine<D> for FileStateMachine {
         ensures spares { IsTrue (D.kind disk.old).tells → SparesOthers state_family (D.content disk.old) (D.content disk.new) }
         ensures held { OnOk result (IsTrue (D.kind disk.old).tells → (files : Files) → D.images disk.new (D.moment disk.new) files → map_held files ≡ Some self.map) }
         ensures nothing { self.stored ≡ self.map.mark → disk.new ≡ disk.old }
+        ensures free { self.stored ≡ self.map.mark → IfErr result (λ _. ⊥) }
+        ensures untouched { IfErr result (OnOutOfMemory (disk.new ≡ disk.old)) }
         ensures refused { IfErr result (IsWriteRefusal (Unit {0}) (Rose (D.faults disk.old) (D.faults disk.new)) (D.kind disk.old).limit) }
         ensures full { IfErr result (IsFullFor self (D.kind disk.old).tells (D.content disk.old) (length (mark_word self.map.mark))) }
         ensures heavy { IfErr result (IsHeavy (D.kind disk.old).limit (state_weight self + store_rise 0)) }
@@ -411,6 +415,7 @@ impl<D: Disk> StateMachine<D> for FileStateMachine {
         ensures keys { IfOk result (λ keys. keys ≡ removed_where (self.old).leased (max now 1) (self.old).map) }
         ensures sorted { IfOk result (λ keys. IsStrictlySortedBy by_bytes keys) }
         ensures nothing { ((self.old).leased && has_due (max now 1) (self.old).map.expiries) ≡ false → (self.new ≡ self.old) × (disk.new ≡ disk.old) }
+        ensures free { ((self.old).leased && has_due (max now 1) (self.old).map.expiries) ≡ false → IfErr result (λ _. ⊥) }
         ensures stored { (self.new).stored ≡ (self.old).stored }
         ensures lease { (self.new).leased ≡ (self.old).leased }
         ensures set { IsSetAs (self.old).running (self.old).metadata (self.new).running (self.new).metadata }

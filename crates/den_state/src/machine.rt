@@ -19,7 +19,7 @@ ghost use Rattle.den_map.specs.Order.{out_of_order};
 ghost use Rattle.den_map.specs.Scan.{keys_in};
 ghost use Rattle.den_state.specs.declared.file_machine.SnapshotMetadata.{SnapshotMetadata};
 ghost use Rattle.den_state.specs.Cleanup.{cleaned_where, removed_where};
-ghost use Rattle.den_state.specs.Machine.{IsWriteRefusal, IsSetAs, StaysAs};
+ghost use Rattle.den_state.specs.Machine.{IsWriteRefusal, IsSetAs, OnOutOfMemory, StaysAs};
 ghost use Rattle.den_state.specs.Chunk.{IsChunkRefusal, Leaves, LeavesOrEnds};
 
 use crate::SnapshotMetadata;
@@ -49,7 +49,7 @@ pub trait StateMachine<D: Disk>: Drop {
     /// Whether a lease is configured.
     ghost leased: { Self → Bool };
 
-    /// Whether it was started last, and not stopped.
+    /// Whether it runs: once it is opened, and after a start until a stop.
     ghost running: { Self → Bool };
 
     /// What was last said of a snapshot.
@@ -59,7 +59,7 @@ pub trait StateMachine<D: Disk>: Drop {
     /// only where four times the weight is above the limit of a file.
     ghost weight: { Self → ℕ };
 
-    /// Its files ask for no checkpoint: few records follow the last one.
+    /// Its files ask for no checkpoint: few records follow the last checkpoint.
     ghost short: { Self → Type 0 };
 
     /// Applies entries in order, each swap seeing the writes before it, and answers whether each succeeded. A chunk out
@@ -158,7 +158,8 @@ pub trait StateMachine<D: Disk>: Drop {
         ensures held { OnOk result (IsTrue (D.kind disk.old).tells → (files : Files) → D.images disk.new (D.moment disk.new) files → holds files ≡ Some (map self)) }
         ensures nothing { stored self ≡ (map self).mark → disk.new ≡ disk.old }
         ensures refused { IfErr result (IsWriteRefusal (Unit {0}) (Rose (D.faults disk.old) (D.faults disk.new)) (D.kind disk.old).limit) }
-        ensures heavy { IfErr result (IsHeavy (D.kind disk.old).limit (weight self + store_rise 0)) };
+        ensures heavy { IfErr result (IsHeavy (D.kind disk.old).limit (weight self + store_rise 0)) }
+        ensures untouched { IfErr result (OnOutOfMemory (disk.new ≡ disk.old)) };
 
     /// Removes each key whose expiry is at most the moment, which counts as 1 where it is 0, with its expiry. Answers
     /// the removed keys, sorted. Without a lease, or where none has expired, it writes nothing.
@@ -210,7 +211,7 @@ pub trait StateMachine<D: Disk>: Drop {
         ensures set { IsSetAs false (metadata self.old) (running self.new) (metadata self.new) }
         ensures same { StaysAs map stored leased weight short ready keeps self.old self.new };
 
-    /// Whether it was started last, and not stopped.
+    /// Whether it runs: once it is opened, and after a start until a stop.
     fn is_running(&self) -> bool
         ensures { result ≡ running self.now };
 

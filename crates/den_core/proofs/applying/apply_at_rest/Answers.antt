@@ -1,4 +1,4 @@
-use Rattle.std.proofs.Common.{◌≡◌, IsTrue, sym, ap, subst}
+use Rattle.std.proofs.Common.{◌≡◌, subst}
 use Rattle.den_disk.specs.Families.{OldOrNew}
 use Rattle.den_model.specs.declared.log_id.LogId.{LogId}
 use Rattle.den_model.specs.MapState.{MapState, map_applied_all}

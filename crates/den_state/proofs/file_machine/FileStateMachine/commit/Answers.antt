@@ -1,4 +1,4 @@
-use Rattle.std.proofs.Common.{◌≡◌, ◌+◌, ◌-◌, ◌^◌, min, length, ap, sym, subst, ◌∙◌}
+use Rattle.std.proofs.Common.{◌≡◌, inr, ◌+◌, ◌-◌, ◌^◌, min, length, ap, sym, subst, ◌∙◌}
 use Rattle.std.proofs.lemmas.Result.{err_from_is_err_and}
 use Rattle.den_disk.specs.declared.place.Family.TheVariants.{State}
 use Rattle.den_model.specs.MapState.{map_applied_all, map_after_payload}
@@ -8,7 +8,7 @@ use Rattle.den_gate.specs.declared.gate.GateFile.{GateFile}
 use Rattle.den_gate.specs.Gate.{payloads}
 use Rattle.den_state.specs.declared.file_machine.FileStateMachine.{FileStateMachine}
 use Rattle.den_state.specs.Machine.{GivesMap, stored_map}
-use Rattle.den_state.proofs.Resting.{held_still, images_still}
+use Rattle.den_state.proofs.Resting.{held_still, images_still, memory_gives}
 use Rattle.den_state.proofs.Tails.{tail_appended, chunk_counts}
 use Rattle.den_state.proofs.Weighing.{weight_appended, light_payload}
 use Rattle.den_state.proofs.file_machine.FileStateMachine.commit.Goals as goal
@@ -49,3 +49,16 @@ returns-clause-rests g c = λ tells.
           (ap (λ (gate : GateFile). payloads gate content.reading) c.take_on.ensures.gate ∙ c.in_ok-append.ensures.appended tells) k.tail
           (chunk_counts s.map c.args.chunk.now s.tail _ c.deref.result.now (ap state_region_in word ∙ c.in_ok-journaled.ensures.reads) tail);
     }
+
+-- the files hold the chunk, which the map could not take on
+pub returns-in_err-take_on-clause-out_of_memory : goal.returns-in_err-take_on-clause-out_of_memory
+returns-in_err-take_on-clause-out_of_memory g c =
+    let s = c.args.self.now in
+    memory_gives c.from_residual-in_err-take_on.result _ (inr (
+      c.in_err-take_on.ensures.failed,
+      λ tells.
+          let k = c.requires.keeps tells in
+          let after = ap (map_after_payload (stored_map s)) c.deref.ensures.value ∙ c.in_ok-journaled.ensures.means s.stored k.below c.requires.some in
+          subst (λ (gate : GateFile). GivesMap gate (map_applied_all s.map c.args.chunk.now) (g.D.Disk.content c.append.new.disk)) (sym c.take_on.ensures.gate)
+          (c.in_ok-append.ensures.gives tells (stored_map s) (map_applied_all s.map c.args.chunk.now) k.files after),
+    ))
