@@ -65,6 +65,9 @@ const STATE_OF_SECOND: &[u8] =
 // The put's region with its gate closed.
 const LOG_OF_CLOSED_PUT: &[u8] =
     b"\0\0\0\0\0\0\0\0\x35\x01\0\0\0\0\0\0\0\x01\0\0\0\0\0\0\0\x02\0\0\0\0\0\0\0\x01\0\0\0\0\0\0\x03\xe8\x01\0\0\0\0\0\0\0\x01a\0\0\0\0\0\0\0\x01b\0";
+// A log of two entries: a put of a = b with a time to live of 1, and a delete of a.
+const LOG_WITH_TTL: &[u8] =
+    b"\x01\0\0\0\0\0\0\0\x5f\x01\0\0\0\0\0\0\0\x02\0\0\0\0\0\0\0\x01\0\0\0\0\0\0\0\x01\0\0\0\0\0\0\x03\xe8\x01\0\0\0\0\0\0\0\x01a\0\0\0\0\0\0\0\x01b\x01\0\0\0\0\0\0\0\x01\0\0\0\0\0\0\0\x02\0\0\0\0\0\0\0\x01\0\0\0\0\0\0\x03\xe8\x02\0\0\0\0\0\0\0\x01a";
 // The put of the empty value.
 const LOG_OF_EMPTY: &[u8] =
     b"\x01\0\0\0\0\0\0\0\x34\x01\0\0\0\0\0\0\0\x01\0\0\0\0\0\0\0\x02\0\0\0\0\0\0\0\x01\0\0\0\0\0\0\x03\xe8\x01\0\0\0\0\0\0\0\x01a\0\0\0\0\0\0\0\0\0";
@@ -137,6 +140,20 @@ fn holds_put(alloc: Global, disk: &MemDisk) -> Result<bool, Fail> {
             && holds(alloc, disk, Family::Meta, &[META])?
             && holds(alloc, disk, Family::State, &[STATE_OF_NOOP, STATE_OF_PUT])?,
     )
+}
+
+// Whether one file has these bytes, and the other eleven none.
+fn holds_alone(disk: &MemDisk, place: Place, bytes: &[u8]) -> bool {
+    for family in [Family::Log, Family::Meta, Family::State, Family::Snapshot] {
+        for part in [Part::Head, Part::A, Part::B] {
+            let here = Place { family, part };
+            let wanted = if here == place { bytes } else { EMPTY };
+            if disk.get(here) != wanted {
+                return false;
+            }
+        }
+    }
+    true
 }
 
 #[test]
@@ -226,6 +243,25 @@ fn not_built(rt: HostRuntime) -> Result<(), Fail> {
         joined(alloc, &[NOT_BUILT, NOT_BUILT])?.as_slice()
     );
     assert!(rt; holds_opening(alloc, &disk)?);
+    Ok(())
+}
+
+#[test]
+fn ttl_in_log(rt: HostRuntime) -> Result<(), Fail> {
+    let alloc = rt.alloc();
+    let log = Place {
+        family: Family::Log,
+        part: Part::A,
+    };
+    let mut disk = MemDisk::new(alloc);
+    disk.set(log, LOG_WITH_TTL)?;
+    let mut link = link_of(alloc, &[])?;
+    assert_eq!(rt;
+        run(alloc, &mut disk, &mut link)?,
+        Err(Error::FeatureNotEnabled)
+    );
+    assert_eq!(rt; link.sent(), EMPTY);
+    assert!(rt; holds_alone(&disk, log, LOG_WITH_TTL));
     Ok(())
 }
 
