@@ -1,0 +1,115 @@
+#!/usr/bin/env python3
+"""Measures what the gate costs: processor minutes by crate, for its proof, its tests and its must-fail edits.
+
+Each part starts from nothing, in a scratch copy of the repository as it stands, in turn and with one job, as the processes
+below it count their time. The tests' part proves the crate and its tests, as the gate does; the edits' part tries each file of
+must-fail/ in turn. Numbers hold for the machine that they are taken on, and rise where other work shares its processors.
+
+It is run by hand, takes as many minutes as it prints, and needs `rt` on the path. A table row is printed as soon as it is there.
+"""
+import argparse
+import glob
+import os
+import shutil
+import subprocess
+import sys
+import time
+
+import scratch
+
+PARTS = ("proof", "tests", "edits")
+
+
+def minutes(words, folder, log):
+    """The processor minutes of a command and of all below it."""
+    started = subprocess.Popen(words, cwd=folder, stdin=subprocess.DEVNULL, stdout=log, stderr=log)
+    _, status, used = os.wait4(started.pid, 0)
+    started.returncode = os.waitstatus_to_exitcode(status)
+    if started.returncode:
+        sys.exit(f"gate_cost: {' '.join(words)} in {folder} ended with {started.returncode}; its output is in {log.name}")
+    return (used.ru_utime + used.ru_stime) / 60
+
+
+def has_tests(folder):
+    files = glob.glob(f"{folder}/src/**/*.rt", recursive=True)
+    return any("#[test]" in open(file, encoding="utf-8").read() for file in files)
+
+
+def forget(folder, part):
+    shutil.rmtree(os.path.join(folder, "out", part), ignore_errors=True)
+
+
+def proof(room, name, log):
+    """The crate's own proof. What it keeps for later checks is removed; its library stays for the crates above."""
+    folder = os.path.join(room, "crates", name)
+    is_program = os.path.isfile(f"{folder}/src/main.rt")
+    forget(folder, "incremental")
+    forget(folder, "rlib")
+    cost = minutes(["rt", "check" if is_program else "lib", "--jobs", "1"], folder, log)
+    forget(folder, "incremental")
+    return cost
+
+
+def tests(room, name, log):
+    """The proof of the crate with its tests."""
+    folder = os.path.join(room, "crates", name)
+    if not has_tests(folder):
+        return 0.0
+    forget(folder, "incremental")
+    cost = minutes(["rt", "check", "--test", "--jobs", "1"], folder, log)
+    forget(folder, "incremental")
+    return cost
+
+
+def edits(room, name, log):
+    """The tries of the crate's must-fail edits."""
+    return minutes(["rt", "must-fail", name], room, log)
+
+
+def below_built(room, names, log):
+    """Proves what stands below the crates and is not there yet, so that no row counts it."""
+    folder = os.path.join(room, "crates", names[0])
+    minutes(["rt", "check", "--only", "", "--jobs", "1"], folder, log)
+
+
+def row(name, costs):
+    cells = [f"{cost:.1f}" if cost is not None else "" for cost in [*costs, sum(it for it in costs if it is not None)]]
+    print(f"| {name} | {' | '.join(cells)} |", flush=True)
+
+
+def measured(room, name, parts, log):
+    """The minutes of each part of a crate, or None for one that was not asked for."""
+    calls = {"proof": proof, "tests": tests, "edits": edits}
+    return [calls[part](room, name, log) if part in parts else None for part in PARTS]
+
+
+def options():
+    parser = argparse.ArgumentParser(description=__doc__, formatter_class=argparse.RawDescriptionHelpFormatter)
+    parser.add_argument("names", metavar="NAME", nargs="*", help="a crate; without one, all of them")
+    parser.add_argument("--parts", default=",".join(PARTS), help="which parts: words of %(default)s, joined by commas")
+    parser.add_argument("--room", help="the scratch folder, which stays; without it one is made and removed")
+    asked = parser.parse_args()
+    asked.parts = asked.parts.split(",")
+    if {*asked.parts} - {*PARTS}:
+        parser.error(f"--parts takes {', '.join(PARTS)}")
+    return asked
+
+
+def main():
+    asked = options()
+    names = scratch.chosen(asked.names)
+    below = [name for name in scratch.crates() if name not in names or "proof" not in asked.parts]
+    sums, started = [0.0] * len(PARTS), time.monotonic()
+    with scratch.copied(below, asked.room) as room, open(os.path.join(room, "gate_cost.log"), "a") as log:
+        below_built(room, names, log)
+        print("| Crate | Proof | Tests | Edits | Sum |\n|---|---|---|---|---|", flush=True)
+        for name in names:
+            costs = measured(room, name, asked.parts, log)
+            sums = [total + (cost or 0) for total, cost in zip(sums, costs)]
+            row(name, costs)
+        row("all", sums)
+    print(f"\nProcessor minutes on {os.cpu_count()} processors; {(time.monotonic() - started) / 60:.0f} minutes went by.")
+
+
+if __name__ == "__main__":
+    main()
