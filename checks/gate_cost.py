@@ -66,12 +66,6 @@ def edits(room, name, log):
     return minutes(["rt", "must-fail", name], room, log)
 
 
-def below_built(room, names, log):
-    """Proves what stands below the crates and is not there yet, so that no row counts it."""
-    folder = os.path.join(room, "crates", names[0])
-    minutes(["rt", "check", "--only", "", "--jobs", "1"], folder, log)
-
-
 def row(name, costs):
     cells = [f"{cost:.1f}" if cost is not None else "" for cost in [*costs, sum(it for it in costs if it is not None)]]
     print(f"| {name} | {' | '.join(cells)} |", flush=True)
@@ -101,9 +95,9 @@ def main():
     below = [name for name in scratch.crates() if name not in names or "proof" not in asked.parts]
     sums, started = [0.0] * len(PARTS), time.monotonic()
     with scratch.copied(below, asked.room) as room, open(os.path.join(room, "gate_cost.log"), "a") as log:
-        below_built(room, names, log)
         print("| Crate | Proof | Tests | Edits | Sum |\n|---|---|---|---|---|", flush=True)
         for name in names:
+            scratch.prove_below(room, [name])
             costs = measured(room, name, asked.parts, log)
             sums = [total + (cost or 0) for total, cost in zip(sums, costs)]
             row(name, costs)

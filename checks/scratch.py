@@ -9,10 +9,24 @@ import tempfile
 TOP = os.path.dirname(os.path.dirname(os.path.abspath(__file__)))
 
 
-def crates():
-    """The crates' names, in the order of crates.txt: each behind those below it."""
+def listed():
+    """What crates.txt says: each crate, behind those below it, with the libraries that it uses."""
     with open(os.path.join(TOP, "crates.txt"), encoding="utf-8") as file:
-        return [line.split(":")[0].strip() for line in file if line.strip() and not line.startswith("#")]
+        lines = [line.partition(":") for line in file if line.strip() and not line.startswith("#")]
+    return {name.strip(): used.split() for name, _, used in lines}
+
+
+def crates():
+    """The crates' names, each behind those below it."""
+    return [*listed()]
+
+
+def below(names):
+    """The repository's crates below these, each behind those below it."""
+    uses, found = listed(), {*names}
+    while more := {it for name in found for it in uses[name] if it in uses} - found:
+        found |= more
+    return [name for name in uses if name in found and any(name in uses[it] for it in found)]
 
 
 def chosen(names):
@@ -52,3 +66,11 @@ def copied(libraries, room=None):
     finally:
         if not room:
             shutil.rmtree(made, ignore_errors=True)
+
+
+def prove_below(room, names):
+    """Has each library below these crates proved in the copy, where what was copied does not serve."""
+    for name in below(names):
+        ran = subprocess.run(["rt", "lib"], cwd=os.path.join(room, "crates", name), stdin=subprocess.DEVNULL, capture_output=True)
+        if ran.returncode:
+            sys.exit(f"{os.path.basename(sys.argv[0])}: the library {name} is not proved:\n{ran.stdout.decode(errors='replace')[-2000:]}")

@@ -89,7 +89,8 @@ def main():
     asked = options()
     names = [name for name in scratch.chosen(asked.names) if asked.gate or glob.glob(f"{EDITS}/{name}/*.edit")]
     results = {}
-    with scratch.copied(scratch.crates()) as room, concurrent.futures.ThreadPoolExecutor(asked.at_once) as pool:
+    with scratch.copied(scratch.below(names)) as room, concurrent.futures.ThreadPoolExecutor(asked.at_once) as pool:
+        scratch.prove_below(room, names)
         edits = {name: place_edits(room, name, asked.gate) for name in names}
         for name, found in zip(names, pool.map(lambda name: tried(room, name, edits[name]), names)):
             results[name] = found
