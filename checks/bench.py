@@ -18,6 +18,7 @@ import sys
 import tempfile
 import time
 
+sys.dont_write_bytecode = True  # no folder of theirs beside these files
 from real_files import BUILT, WRITTEN, frame, put, read
 
 VALUE = b"v" * 16

@@ -15,6 +15,7 @@ import subprocess
 import sys
 import time
 
+sys.dont_write_bytecode = True  # no folder of theirs beside these files
 import scratch
 
 PARTS = ("proof", "tests", "edits")

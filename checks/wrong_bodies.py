@@ -20,6 +20,7 @@ import shutil
 import subprocess
 import sys
 
+sys.dont_write_bytecode = True  # no folder of theirs beside these files
 import scratch
 
 EDITS = os.path.join(scratch.TOP, "checks", "wrong_bodies")
