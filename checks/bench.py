@@ -164,7 +164,8 @@ def instructions(program, room, count):
     words = ["valgrind", "--quiet", "--tool=callgrind", f"--callgrind-out-file={told}"]
     served(program, os.path.join(room, f"counted{count}"), puts(range(count)), words=words)
     with open(told, encoding="utf-8", errors="replace") as file:
-        return int(re.search(r"^(?:summary|totals): (\d+)", file.read(), re.M)[1])
+        found = re.search(r"^(?:summary|totals): (\d+)", file.read(), re.M)
+    return int(found[1]) if found else stop("callgrind tells no sum")
 
 
 def counted(program, room):
