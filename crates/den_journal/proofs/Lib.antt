@@ -1,0 +1,4 @@
+pub mod Full
+pub mod Joins
+pub mod Moving
+pub mod Opens

@@ -1,0 +1,127 @@
+-- What a call of a store leaves at each of its exits.
+use Rattle.std.proofs.Common.{◌≡◌, inl, inr, ℕ, ◌+◌, ◌≤◌, IsTrue, List, [], ◌∷◌, ◌++◌, Option, Some, Result, Ok, Err, refl, sym, ap, ◌∙◌, subst, arith}
+use Rattle.std.specs.Prelude.{◌↔◌}
+use Rattle.std.specs.Result.{IsErrAnd}
+use Rattle.std.proofs.Math.Nat.{le_refl}
+use Rattle.den_disk.specs.declared.disk.Disk.{Ghosts}
+use Rattle.den_disk.specs.declared.place.Family.{Family}
+use Rattle.den_disk.specs.declared.place.Place.{Place}
+use Rattle.den_disk.specs.Files.{Files, Content, IsImage}
+use Rattle.den_disk.specs.Goes.{DiskGoesOn, ImagesGoOn}
+use Rattle.den_disk.specs.Families.{OldOrNew, SparesImages, SparesOthers, SparesAll, NoNewImages}
+use Rattle.den_model.specs.Regions.{Region, placed}
+use Rattle.den_model.specs.Image.{ok, slot_of}
+use Rattle.den_codec.specs.declared.error.Error.{Error}
+use Rattle.den_codec.specs.declared.error.Error.TheVariants.{OutOfMemory}
+use Rattle.den_codec.specs.Full.{IsHeavy}
+use Rattle.den_gate.specs.Gate.{HasList, KeepsOrAddsFamily}
+use Rattle.den_gate.proofs.Families.{has_meaning, adds_meaning}
+use Rattle.den_journal.specs.Causes.{IsFullFor, IsOfDisk, IsRefusal}
+use Rattle.den_journal.specs.Shown.{Change, IsOneOf, Shown, held_in}
+use Rattle.den_journal.specs.Writes.{GoesOn, Tells, Faulted, Moves, Becomes, Untouched, IsLost, IsRefused, Writes}
+
+same_moment : (t u : ℕ) → t ≤ u → u ≤ t → u ≡ t
+same_moment t u low high = omega arith
+
+-- ---- a call that gets no new image
+
+-- the first of some values is one of them
+pub first_of : {V : Type 0} (v : V) (vs : List V) (found : Option V) → found ≡ Some v → IsOneOf (v ∷ vs) found
+first_of v [] found is = is
+first_of v (w ∷ vs) found is = inl is
+
+module _ {D V : Type 0} (disk : Ghosts D) (family : Family) (holds : Files → Option V) (v : V) (more : List V) where
+  -- what gets no new image leaves the old value
+  pub moves_not : (old new : D) → ((files : Files) → disk.images old (disk.moment old) files → holds files ≡ Some v)
+      → NoNewImages (disk.images old) (disk.images new) (disk.moment old) (disk.moment new) → SparesAll (disk.content old) (disk.content new)
+      → Moves disk family holds (v ∷ more) old new
+  moves_not old new gives none spares = record {
+    own = λ t files low high i. first_of v more (holds files) (gives files (none.each t files low high i));
+    others = record { each = λ t files low high i. (files, none.each t files low high i, λ q ne. refl) };
+    spares = record { reading = λ q ne. spares.reading q; pending = λ q ne k h. spares.pending q k h };
+  }
+
+  -- what is left as it was
+  pub moves_nothing : (d : D) → ((files : Files) → disk.images d (disk.moment d) files → holds files ≡ Some v) → Moves disk family holds (v ∷ more) d d
+  moves_nothing d gives = moves_not d d gives (record { each = λ t files low high i. subst (λ k. disk.images d k files) (same_moment (disk.moment d) t low high) i })
+      (record { reading = λ q. refl; pending = λ q k h. h })
+
+-- a call that leaves one of two values
+pub old_or_new : {D V : Type 0} {disk : Ghosts D} {family : Family} {holds : Files → Option V} {v w : V} {old new : D} → Moves disk family holds (v ∷ w ∷ []) old new
+    → OldOrNew holds (disk.images new) (disk.moment old) (disk.moment new) v w
+old_or_new m = record { each = m.own }
+
+-- each image of a disk that tells gives what its files hold
+pub gives_now : {D V : Type 0} (disk : Ghosts D) (holds : Files → Option V) (shown : Shown V) (d : D) → ((c : Content) (files : Files) → shown.rests c → IsImage c files → holds files ≡ Some shown.value)
+    → ((files : Files) → disk.images d (disk.moment d) files ↔ IsImage (disk.content d) files) → shown.rests (disk.content d) → (files : Files) → disk.images d (disk.moment d) files → holds files ≡ Some shown.value
+gives_now disk holds shown d hold now rests files i = hold (disk.content d) files rests ((now files).0 i)
+
+-- ---- a call that adds a region
+
+pub moves_by : {D V : Type 0} (disk : Ghosts D) (family : Family) (meaning : List Region → Result V ℕ) (slot : Place) (list : List (List ℕ)) (payload : List ℕ) (v w : V) (old new : D) → slot.family ≡ family
+    → meaning (placed 0 list) ≡ Ok v → meaning (placed 0 (list ++ payload ∷ [])) ≡ Ok w → KeepsOrAddsFamily slot list payload (disk.images new) (disk.moment old) (disk.moment new)
+    → SparesImages slot.family (disk.images old) (disk.images new) (disk.moment old) (disk.moment new) → SparesOthers slot.family (disk.content old) (disk.content new)
+    → Moves disk family (held_in family meaning) (v ∷ w ∷ []) old new
+moves_by disk family meaning slot list payload v w old new own was is adds others spares = record {
+  own = (adds_meaning (held_in family meaning) slot list payload (disk.images new) (disk.moment old) (disk.moment new) v w
+      (λ files h. ap ok (has_meaning family meaning slot list files own h ∙ was))
+      (λ files h. ap ok (has_meaning family meaning slot (list ++ payload ∷ []) files own h ∙ is)) adds).each;
+  others = subst (λ (f : Family). SparesImages f (disk.images old) (disk.images new) (disk.moment old) (disk.moment new)) own others;
+  spares = subst (λ (f : Family). SparesOthers f (disk.content old) (disk.content new)) own spares;
+}
+
+-- ---- the exits at which nothing was written
+
+-- what goes on from where it is
+goes_nowhere : {D : Type 0} (disk : Ghosts D) (d : D) → GoesOn disk d d
+goes_nowhere disk d = record {
+  same = refl;
+  counts = le_refl (disk.faults d);
+  told = λ tells. record { later = le_refl (disk.moment d); past = λ t files low i. i; keeps = λ t files low i. i };
+}
+
+module _ {D V T : Type 0} (disk : Ghosts D) (family : Family) (holds : Files → Option V) (change : Change V) (was now : Shown V) (d : D)
+    (ready : now.ready) (rests : Tells disk d → now.rests (disk.content d)) (gives : Tells disk d → (files : Files) → disk.images d (disk.moment d) files → holds files ≡ Some was.value) where
+  -- nothing was to be changed
+  pub writes_nothing : (x : T) → now.value ≡ change.to → now.weight ≤ was.weight → Writes disk was now d d family holds change (Ok x)
+  writes_nothing x same light = record {
+    goes_on = goes_nowhere disk d;
+    moves = λ tells. moves_nothing disk family holds was.value (change.to ∷ []) d (gives tells);
+    done = record { value = same; weight = omega arith; ready = ready; rests = rests };
+    refused = tt;
+  }
+
+  -- memory was wanting
+  pub writes_refused : (result : Result T Error) → IsErrAnd result (λ e. e ≡ OutOfMemory) → now.value ≡ was.value → now.weight ≡ was.weight → Writes disk was now d d family holds change result
+  writes_refused (Ok x) is same even = absurd is
+  writes_refused (Err e) is same even = record {
+    goes_on = goes_nowhere disk d;
+    moves = λ tells. moves_nothing disk family holds was.value (change.to ∷ []) d (gives tells);
+    done = tt;
+    refused = record {
+      cause = subst (IsRefusal (Faulted disk d d) (disk.kind d).limit) (sym is) tt;
+      full = subst (IsFullFor (Tells disk d) ((disk.content d).reading (slot_of family (disk.content d).reading)) was.weight change.size) (sym is) tt;
+      heavy = subst (IsHeavy (disk.kind d).limit (was.weight + change.rise)) (sym is) tt;
+      untouched = λ _. inl (record { same_disk = refl; same_value = same; same_weight = even; ready = ready; rests = rests });
+      failed = λ of_disk _. subst IsOfDisk is of_disk;
+      kept = λ of_disk. absurd (subst IsOfDisk is of_disk);
+    };
+  }
+
+-- memory was wanting once a change was written
+pub writes_lost : {D V T : Type 0} (disk : Ghosts D) (family : Family) (holds : Files → Option V) (change : Change V) (was now : Shown V) (old new : D) (result : Result T Error) → IsErrAnd result (λ e. e ≡ OutOfMemory)
+    → GoesOn disk old new → (Tells disk old → Moves disk family holds (was.value ∷ change.to ∷ []) old new) → IsLost disk was now old new holds change → Writes disk was now old new family holds change result
+writes_lost disk family holds change was now old new (Ok x) is goes moves so = absurd is
+writes_lost disk family holds change was now old new (Err e) is goes moves so = record {
+  goes_on = goes;
+  moves = moves;
+  done = tt;
+  refused = record {
+    cause = subst (IsRefusal (Faulted disk old new) (disk.kind old).limit) (sym is) tt;
+    full = subst (IsFullFor (Tells disk old) ((disk.content old).reading (slot_of family (disk.content old).reading)) was.weight change.size) (sym is) tt;
+    heavy = subst (IsHeavy (disk.kind old).limit (was.weight + change.rise)) (sym is) tt;
+    untouched = λ _. inr so;
+    failed = λ of_disk _. subst IsOfDisk is of_disk;
+    kept = λ of_disk. absurd (subst IsOfDisk is of_disk);
+  };
+}

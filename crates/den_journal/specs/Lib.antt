@@ -1,0 +1,9 @@
+pub mod Causes
+pub mod Folding
+pub mod Journals
+pub mod Lies
+pub mod Meanings
+pub mod Opening
+pub mod Refused
+pub mod Shown
+pub mod Writes

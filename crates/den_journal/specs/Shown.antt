@@ -1,0 +1,45 @@
+-- What contracts see of a store: a family's files, and the value that a fold over their regions gives.
+use Rattle.std.specs.Prelude.{◌≡◌, ◌⊎◌, ℕ, Bool, false, List, [], ◌∷◌, Option, Some, Result, Ok}
+use Rattle.den_disk.specs.declared.place.Family.{Family}
+use Rattle.den_disk.specs.Files.{Files, Content}
+use Rattle.den_model.specs.Regions.{Region, placed}
+use Rattle.den_model.specs.Image.{ok, in_regions}
+use Rattle.den_gate.specs.declared.gate.GateFile.{GateFile}
+use Rattle.den_gate.specs.Gate.{payloads, IsAtRest, IsCurrent}
+
+-- What is seen of one at a moment: its value; its weight, the bytes of the regions in use; that it has not failed; and
+-- that its files lie on the disk as its last call left them.
+pub record Shown (V : Type 0) : Type 1 where
+  pub value : V
+  pub weight : ℕ
+  pub ready : Type 0
+  pub rests : Content → Type 0
+
+-- What a call writes: the value that it makes, the bytes of its region's payload, by how much the weight rises at most,
+-- and whether memory may be wanting once the region is written.
+pub record Change (V : Type 0) : Type 1 where
+  pub to : V
+  pub size : ℕ
+  pub rise : ℕ
+  pub lost : Type 0
+
+-- what is found is one of these values
+abbrev pub IsOneOf : {V : Type 0} → List V → Option V → Type 0
+IsOneOf [] found = ⊥
+IsOneOf (v ∷ []) found = found ≡ Some v
+IsOneOf (v ∷ w ∷ vs) found = (found ≡ Some v) ⊎ IsOneOf (w ∷ vs) found
+
+-- a gate file at rest, the one that the family's head names, whose regions give this value
+pub record Gives {V : Type 0} (family : Family) (meaning : List Region → Result V ℕ) (gate : GateFile) (value : V) (c : Content) : Type 0 where
+  pub family_is : gate.slot.family ≡ family
+  pub at_rest : IsAtRest gate c
+  pub current : IsCurrent gate.slot c
+  pub means : meaning (placed 0 (payloads gate c.reading)) ≡ Ok value
+
+-- what is seen of a gate file with the value that its regions give
+abbrev pub shown_of : {V : Type 0} → Family → (List Region → Result V ℕ) → Bool → GateFile → V → Shown V
+shown_of family meaning failed gate value = record { value = value; weight = gate.end; ready = (failed ≡ false) × (gate.failed ≡ false); rests = Gives family meaning gate value }
+
+-- what files give
+abbrev pub held_in : {V : Type 0} → Family → (List Region → Result V ℕ) → Files → Option V
+held_in family meaning files = ok (in_regions family meaning files)

@@ -1,0 +1,36 @@
+//! A journal: a gate file of one family of files, and in memory the value that a fold over its regions gives. It stands
+//! between the gate files and the stores: a store has a journal, and says what its regions mean (`Folded`).
+//!
+//! `Journal::open` reads the family's slot in use and folds its regions into a value. `Journal::change` appends one region,
+//! by which the value changes in the files and then in memory. `Journal::flush` puts all files on the disk. A refusal of the
+//! disk ends a journal: it is opened anew, and finds the value from before the refused call or the one after it.
+//!
+//! Invariants, and where each stands:
+//!
+//! 1. The regions of the slot in use, folded, give the value in memory: `Gives` in specs/Shown.antt, which is `rests` of
+//!    what contracts see of a journal.
+//! 2. The slot in use is at rest: nothing of it is pending, and behind its last region stands a closed gate or the file's
+//!    end: `at_rest`, `current` of `Gives`.
+//! 3. A crash at any moment of a call leaves the family's files to give one of the values that the call names, and the
+//!    files of the other families as a crash before the call might have left them: `Moves` in specs/Writes.antt.
+//! 4. The weight is the bytes of the regions in use. A full disk is told the room that the refused region needs behind
+//!    them: `full` of `IsRefused`.
+//! 5. Memory is taken before the region is written. A value that takes memory behind the write, too, says so (`lost`), and a
+//!    journal that wants it then has failed: `untouched` of `IsRefused`.
+//!
+//! A call of a store is stated by one record, over what is seen of the store before and after it (`Shown`) and what the
+//! call writes (`Change`): `Writes` for a call that changes the value, `Syncs` for a flush, `Ends` for the last call,
+//! `Opens` for an opening, `Stands` for what each needs. `Lies` has what a caller may take of any store: only its own
+//! family's files count, and a crash of files at rest gives its value.
+//!
+//!     let mut journal = Journal::<LastState>::open(alloc, &mut disk)?;
+//!     journal.change(&mut disk, state)?;
+#![tactic(auto)]
+
+mod family;
+mod folded;
+mod journal;
+mod replay;
+
+pub use folded::Folded;
+pub use journal::Journal;
