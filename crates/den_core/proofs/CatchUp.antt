@@ -15,7 +15,7 @@ use Rattle.den_map.specs.Order.{out_of_order}
 use Rattle.den_store.specs.Order.{IsInOrder}
 use Rattle.den_core.specs.Joined.{durable_is, found_is}
 use Rattle.den_core.specs.Opening.{agrees, is_exhausted, opening_refusal, refusal_by, refusal_for, IsLeft, IsOpeningFailure}
-use Rattle.den_store.specs.Causes.{IsRefusal}
+use Rattle.den_journal.specs.Causes.{IsRefusal}
 use Rattle.den_codec.specs.declared.error.Error.{Error}
 use Rattle.den_core.specs.Parts.{durable_of, IsCaughtUp}
 use Rattle.den_core.proofs.Durables.{AllUpTo, none_above, up_to_more, applied_is}

@@ -9,7 +9,7 @@ use Rattle.den_model.specs.Kv.{Durable}
 use Rattle.den_model.specs.Log.{Log, above, floor}
 use Rattle.den_model.specs.MapState.{MapState}
 use Rattle.den_map.specs.Leases.{asks_lease, has_expiry}
-use Rattle.den_store.specs.Causes.{IsRefusal}
+use Rattle.den_journal.specs.Causes.{IsRefusal}
 
 -- no term or no index is left
 abbrev pub is_exhausted : Durable → Bool

@@ -2,7 +2,7 @@
 use Rattle.std.specs.Prelude.{ℕ}
 use Rattle.den_codec.specs.declared.error.Error.{Error}
 use Rattle.den_codec.specs.declared.error.Error.TheVariants.{OutOfMemory, StorageIoError, DiskFull, LinkFault}
-use Rattle.den_store.specs.Causes.{IsRefusal}
+use Rattle.den_journal.specs.Causes.{IsRefusal}
 
 -- of a call that is lent a link: want of memory, or a fault of the link where its count rose
 abbrev pub IsLinkRefusal : Type 0 → Error → Type 0

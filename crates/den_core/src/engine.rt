@@ -11,7 +11,7 @@ ghost use Rattle.den_model.specs.Kv.{Durable, Kv};
 ghost use Rattle.den_model.specs.Log.{changed};
 ghost use Rattle.den_model.specs.declared.region.LogRegion.TheVariants.{Append};
 ghost use Rattle.den_model.specs.Step.{answer, has_ttl, next_entry, put_through};
-ghost use Rattle.den_store.specs.Causes.{IsRefusal};
+ghost use Rattle.den_journal.specs.Causes.{IsRefusal};
 ghost use Rattle.den_codec.specs.Full.{IsHeavy};
 ghost use Rattle.den_core.specs.Parts.{durable_of, kv_of, raised_of, vote_of, IsCaughtUp, IsPlain, IsReady, AllRest};
 ghost use Rattle.den_core.specs.Spared.{SparesFamily};
@@ -51,15 +51,15 @@ impl<G, T, M> Engine<G, T, M> {
         G: LogStore<D>,
         T: MetaStore<D>,
         M: StateMachine<D>,
-        requires log_ready { G.ready log }
-        requires meta_ready { T.ready meta }
+        requires log_ready { (G.shown log).ready }
+        requires meta_ready { (T.shown meta).ready }
         requires state_ready { M.ready state }
-        requires caught_up { IsCaughtUp (G.log log) (M.map state) }
+        requires caught_up { IsCaughtUp (G.shown log).value (M.map state) }
         requires plain { IsPlain running }
-        ensures kv { ⟦<Engine<G, T, M> as Stepper<D>>⟧.kv result ≡ kv_of (T.hard_state meta) (M.map state) running }
+        ensures kv { ⟦<Engine<G, T, M> as Stepper<D>>⟧.kv result ≡ kv_of (T.shown meta).value (M.map state) running }
         ensures ready { ⟦<Engine<G, T, M> as Stepper<D>>⟧.ready result }
-        ensures weight { ⟦<Engine<G, T, M> as Stepper<D>>⟧.weight result ≡ G.weight log + T.weight meta + M.weight state }
-        ensures rests { (content : Content) → AllRest (G.rests log content) (T.rests meta content) (M.rests state content)
+        ensures weight { ⟦<Engine<G, T, M> as Stepper<D>>⟧.weight result ≡ (G.shown log).weight + (T.shown meta).weight + M.weight state }
+        ensures rests { (content : Content) → AllRest ((G.shown log).rests content) ((T.shown meta).rests content) (M.rests state content)
             → ⟦<Engine<G, T, M> as Stepper<D>>⟧.rests result content }
     {
         Engine {
@@ -74,7 +74,7 @@ impl<G, T, M> Engine<G, T, M> {
 
 /// The current term, 0 before any was saved.
 pub(crate) fn current_term<D: Disk, T: MetaStore<D>>(meta: &T) -> u64
-    ensures { result ≡ term_of (T.hard_state meta.now) }
+    ensures { result ≡ term_of (T.shown meta.now).value }
 {
     match meta.load_hard_state() {
         Some(state) => state.current_term,
@@ -97,29 +97,29 @@ fn raise<D: Disk, G: LogStore<D>, T: MetaStore<D>, M: StateMachine<D>>(
     engine: &mut Engine<G, T, M>,
     disk: &mut D,
 ) -> Result<(), Error>
-    requires ready { IsReady (G.ready engine.old.log) (T.ready engine.old.meta) (M.ready engine.old.state)
-        (G.log engine.old.log) (M.map engine.old.state) engine.old.running }
-    requires rests { IsTrue (D.kind disk.old).tells → AllRest (G.rests engine.old.log (D.content disk.old))
-        (T.rests engine.old.meta (D.content disk.old)) (M.rests engine.old.state (D.content disk.old)) }
-    requires room { term_of (T.hard_state engine.old.meta) < 2 ^ 64 - 1 }
+    requires ready { IsReady (G.shown engine.old.log).ready (T.shown engine.old.meta).ready (M.ready engine.old.state)
+        (G.shown engine.old.log).value (M.map engine.old.state) engine.old.running }
+    requires rests { IsTrue (D.kind disk.old).tells → AllRest ((G.shown engine.old.log).rests (D.content disk.old))
+        ((T.shown engine.old.meta).rests (D.content disk.old)) (M.rests engine.old.state (D.content disk.old)) }
+    requires room { term_of (T.shown engine.old.meta).value < 2 ^ 64 - 1 }
     ensures disk { DiskGoesOn D.kind D.moment D.images D.faults disk.old disk.new }
     ensures snapshot { IsTrue (D.kind disk.old).tells → SparesFamily snapshot_family D.content D.moment D.images disk.old disk.new }
     ensures moves { IsTrue (D.kind disk.old).tells
         → OldOrNew (λ files. joined (G.holds files) (T.holds files) (M.holds files)) (D.images disk.new) (D.moment disk.old) (D.moment disk.new)
-        (durable_of (T.hard_state engine.old.meta) (M.map engine.old.state))
-        (durable_of (Some (raised_of engine.old.running (T.hard_state engine.old.meta))) (M.map engine.old.state)) }
-    ensures raised { OnOk result (T.hard_state engine.new.meta ≡ Some (raised_of engine.old.running (T.hard_state engine.old.meta))) }
-    ensures log { G.log engine.new.log ≡ G.log engine.old.log }
+        (durable_of (T.shown engine.old.meta).value (M.map engine.old.state))
+        (durable_of (Some (raised_of engine.old.running (T.shown engine.old.meta).value)) (M.map engine.old.state)) }
+    ensures raised { OnOk result ((T.shown engine.new.meta).value ≡ Some (raised_of engine.old.running (T.shown engine.old.meta).value)) }
+    ensures log { (G.shown engine.new.log).value ≡ (G.shown engine.old.log).value }
     ensures map { M.map engine.new.state ≡ M.map engine.old.state }
     ensures running { engine.new.running ≡ engine.old.running }
-    ensures ready { OnOk result (IsReady (G.ready engine.new.log) (T.ready engine.new.meta) (M.ready engine.new.state)
-        (G.log engine.new.log) (M.map engine.new.state) engine.new.running) }
-    ensures rests { OnOk result (IsTrue (D.kind disk.old).tells → AllRest (G.rests engine.new.log (D.content disk.new))
-        (T.rests engine.new.meta (D.content disk.new)) (M.rests engine.new.state (D.content disk.new))) }
-    ensures weight { OnOk result (G.weight engine.new.log + T.weight engine.new.meta + M.weight engine.new.state
-        ≤ G.weight engine.old.log + T.weight engine.old.meta + M.weight engine.old.state + raise_rise) }
+    ensures ready { OnOk result (IsReady (G.shown engine.new.log).ready (T.shown engine.new.meta).ready (M.ready engine.new.state)
+        (G.shown engine.new.log).value (M.map engine.new.state) engine.new.running) }
+    ensures rests { OnOk result (IsTrue (D.kind disk.old).tells → AllRest ((G.shown engine.new.log).rests (D.content disk.new))
+        ((T.shown engine.new.meta).rests (D.content disk.new)) (M.rests engine.new.state (D.content disk.new))) }
+    ensures weight { OnOk result ((G.shown engine.new.log).weight + (T.shown engine.new.meta).weight + M.weight engine.new.state
+        ≤ (G.shown engine.old.log).weight + (T.shown engine.old.meta).weight + M.weight engine.old.state + raise_rise) }
     ensures refused { IfErr result (λ e. IsRefusal (Rose (D.faults disk.old) (D.faults disk.new)) (D.kind disk.old).limit e) }
-    ensures heavy { IfErr result (IsHeavy (D.kind disk.old).limit (G.weight engine.old.log + T.weight engine.old.meta + M.weight engine.old.state + raise_rise)) }
+    ensures heavy { IfErr result (IsHeavy (D.kind disk.old).limit ((G.shown engine.old.log).weight + (T.shown engine.old.meta).weight + M.weight engine.old.state + raise_rise)) }
 {
     let term = current_term::<D, T>(&engine.meta) + 1;
     let raised = HardState {
@@ -136,10 +136,10 @@ fn commit<D: Disk, G: LogStore<D>, T: MetaStore<D>, M: StateMachine<D>>(
     command: Command,
     moment: u64,
 ) -> Result<bool, Error>
-    requires ready { IsReady (G.ready engine.old.log) (T.ready engine.old.meta) (M.ready engine.old.state)
-        (G.log engine.old.log) (M.map engine.old.state) engine.old.running }
-    requires rests { IsTrue (D.kind disk.old).tells → AllRest (G.rests engine.old.log (D.content disk.old))
-        (T.rests engine.old.meta (D.content disk.old)) (M.rests engine.old.state (D.content disk.old)) }
+    requires ready { IsReady (G.shown engine.old.log).ready (T.shown engine.old.meta).ready (M.ready engine.old.state)
+        (G.shown engine.old.log).value (M.map engine.old.state) engine.old.running }
+    requires rests { IsTrue (D.kind disk.old).tells → AllRest ((G.shown engine.old.log).rests (D.content disk.old))
+        ((T.shown engine.old.meta).rests (D.content disk.old)) (M.rests engine.old.state (D.content disk.old)) }
     requires room { (M.map engine.old.state).mark.index < 2 ^ 64 - 1 }
     requires moment { 1 ≤ moment }
     requires no_ttl { has_ttl command ≡ false }
@@ -147,24 +147,24 @@ fn commit<D: Disk, G: LogStore<D>, T: MetaStore<D>, M: StateMachine<D>>(
     ensures snapshot { IsTrue (D.kind disk.old).tells → SparesFamily snapshot_family D.content D.moment D.images disk.old disk.new }
     ensures moves { IsTrue (D.kind disk.old).tells
         → OldOrNew (λ files. joined (G.holds files) (T.holds files) (M.holds files)) (D.images disk.new) (D.moment disk.old) (D.moment disk.new)
-        (durable_of (T.hard_state engine.old.meta) (M.map engine.old.state))
-        (applied (durable_of (T.hard_state engine.old.meta) (M.map engine.old.state))
-        (next_entry (kv_of (T.hard_state engine.old.meta) (M.map engine.old.state) engine.old.running) moment command)) }
-    ensures state { OnOk result (durable_of (T.hard_state engine.new.meta) (M.map engine.new.state)
-        ≡ applied (durable_of (T.hard_state engine.old.meta) (M.map engine.old.state))
-        (next_entry (kv_of (T.hard_state engine.old.meta) (M.map engine.old.state) engine.old.running) moment command)) }
-    ensures logged { OnOk result (G.log engine.new.log ≡ changed (G.log engine.old.log)
-        (Append (next_entry (kv_of (T.hard_state engine.old.meta) (M.map engine.old.state) engine.old.running) moment command ∷ []))) }
-    ensures succeeded { IfOk result (λ succeeded. succeeded ≡ succeeds (durable_of (T.hard_state engine.old.meta) (M.map engine.old.state)) command) }
+        (durable_of (T.shown engine.old.meta).value (M.map engine.old.state))
+        (applied (durable_of (T.shown engine.old.meta).value (M.map engine.old.state))
+        (next_entry (kv_of (T.shown engine.old.meta).value (M.map engine.old.state) engine.old.running) moment command)) }
+    ensures state { OnOk result (durable_of (T.shown engine.new.meta).value (M.map engine.new.state)
+        ≡ applied (durable_of (T.shown engine.old.meta).value (M.map engine.old.state))
+        (next_entry (kv_of (T.shown engine.old.meta).value (M.map engine.old.state) engine.old.running) moment command)) }
+    ensures logged { OnOk result ((G.shown engine.new.log).value ≡ changed (G.shown engine.old.log).value
+        (Append (next_entry (kv_of (T.shown engine.old.meta).value (M.map engine.old.state) engine.old.running) moment command ∷ []))) }
+    ensures succeeded { IfOk result (λ succeeded. succeeded ≡ succeeds (durable_of (T.shown engine.old.meta).value (M.map engine.old.state)) command) }
     ensures running { engine.new.running ≡ engine.old.running }
-    ensures ready { OnOk result (IsReady (G.ready engine.new.log) (T.ready engine.new.meta) (M.ready engine.new.state)
-        (G.log engine.new.log) (M.map engine.new.state) engine.new.running) }
-    ensures rests { OnOk result (IsTrue (D.kind disk.old).tells → AllRest (G.rests engine.new.log (D.content disk.new))
-        (T.rests engine.new.meta (D.content disk.new)) (M.rests engine.new.state (D.content disk.new))) }
-    ensures weight { OnOk result (G.weight engine.new.log + T.weight engine.new.meta + M.weight engine.new.state
-        ≤ G.weight engine.old.log + T.weight engine.old.meta + M.weight engine.old.state + commit_rise command) }
+    ensures ready { OnOk result (IsReady (G.shown engine.new.log).ready (T.shown engine.new.meta).ready (M.ready engine.new.state)
+        (G.shown engine.new.log).value (M.map engine.new.state) engine.new.running) }
+    ensures rests { OnOk result (IsTrue (D.kind disk.old).tells → AllRest ((G.shown engine.new.log).rests (D.content disk.new))
+        ((T.shown engine.new.meta).rests (D.content disk.new)) (M.rests engine.new.state (D.content disk.new))) }
+    ensures weight { OnOk result ((G.shown engine.new.log).weight + (T.shown engine.new.meta).weight + M.weight engine.new.state
+        ≤ (G.shown engine.old.log).weight + (T.shown engine.old.meta).weight + M.weight engine.old.state + commit_rise command) }
     ensures refused { IfErr result (λ e. IsRefusal (Rose (D.faults disk.old) (D.faults disk.new)) (D.kind disk.old).limit e) }
-    ensures heavy { IfErr result (IsHeavy (D.kind disk.old).limit (G.weight engine.old.log + T.weight engine.old.meta + M.weight engine.old.state + commit_rise command)) }
+    ensures heavy { IfErr result (IsHeavy (D.kind disk.old).limit ((G.shown engine.old.log).weight + (T.shown engine.old.meta).weight + M.weight engine.old.state + commit_rise command)) }
 {
     let index = engine.state.last_applied().index + 1;
     let term = current_term::<D, T>(&engine.meta);
@@ -181,28 +181,28 @@ fn answer<D: Disk, G: LogStore<D>, T: MetaStore<D>, M: StateMachine<D>>(
     frame: Frame,
     moment: u64,
 ) -> Result<Reply, Error>
-    requires ready { IsReady (G.ready engine.old.log) (T.ready engine.old.meta) (M.ready engine.old.state)
-        (G.log engine.old.log) (M.map engine.old.state) engine.old.running }
-    requires rests { IsTrue (D.kind disk.old).tells → AllRest (G.rests engine.old.log (D.content disk.old))
-        (T.rests engine.old.meta (D.content disk.old)) (M.rests engine.old.state (D.content disk.old)) }
+    requires ready { IsReady (G.shown engine.old.log).ready (T.shown engine.old.meta).ready (M.ready engine.old.state)
+        (G.shown engine.old.log).value (M.map engine.old.state) engine.old.running }
+    requires rests { IsTrue (D.kind disk.old).tells → AllRest ((G.shown engine.old.log).rests (D.content disk.old))
+        ((T.shown engine.old.meta).rests (D.content disk.old)) (M.rests engine.old.state (D.content disk.old)) }
     requires moment { 1 ≤ moment }
     requires built { IsBuiltFrame frame }
     ensures disk { DiskGoesOn D.kind D.moment D.images D.faults disk.old disk.new }
     ensures snapshot { IsTrue (D.kind disk.old).tells → SparesFamily snapshot_family D.content D.moment D.images disk.old disk.new }
     ensures moves { IsTrue (D.kind disk.old).tells
         → OldOrNew (λ files. joined (G.holds files) (T.holds files) (M.holds files)) (D.images disk.new) (D.moment disk.old) (D.moment disk.new)
-        (durable_of (T.hard_state engine.old.meta) (M.map engine.old.state))
-        (answer (kv_of (T.hard_state engine.old.meta) (M.map engine.old.state) engine.old.running) moment frame).after.durable }
-    ensures answered { IfOk result (λ reply. answer (kv_of (T.hard_state engine.old.meta) (M.map engine.old.state) engine.old.running) moment frame
-        ≡ record { after = kv_of (T.hard_state engine.new.meta) (M.map engine.new.state) engine.new.running; reply = Some reply; events = [] }) }
-    ensures ready { OnOk result (IsReady (G.ready engine.new.log) (T.ready engine.new.meta) (M.ready engine.new.state)
-        (G.log engine.new.log) (M.map engine.new.state) engine.new.running) }
-    ensures rests { OnOk result (IsTrue (D.kind disk.old).tells → AllRest (G.rests engine.new.log (D.content disk.new))
-        (T.rests engine.new.meta (D.content disk.new)) (M.rests engine.new.state (D.content disk.new))) }
-    ensures weight { OnOk result (G.weight engine.new.log + T.weight engine.new.meta + M.weight engine.new.state
-        ≤ G.weight engine.old.log + T.weight engine.old.meta + M.weight engine.old.state + frame_rise frame) }
+        (durable_of (T.shown engine.old.meta).value (M.map engine.old.state))
+        (answer (kv_of (T.shown engine.old.meta).value (M.map engine.old.state) engine.old.running) moment frame).after.durable }
+    ensures answered { IfOk result (λ reply. answer (kv_of (T.shown engine.old.meta).value (M.map engine.old.state) engine.old.running) moment frame
+        ≡ record { after = kv_of (T.shown engine.new.meta).value (M.map engine.new.state) engine.new.running; reply = Some reply; events = [] }) }
+    ensures ready { OnOk result (IsReady (G.shown engine.new.log).ready (T.shown engine.new.meta).ready (M.ready engine.new.state)
+        (G.shown engine.new.log).value (M.map engine.new.state) engine.new.running) }
+    ensures rests { OnOk result (IsTrue (D.kind disk.old).tells → AllRest ((G.shown engine.new.log).rests (D.content disk.new))
+        ((T.shown engine.new.meta).rests (D.content disk.new)) (M.rests engine.new.state (D.content disk.new))) }
+    ensures weight { OnOk result ((G.shown engine.new.log).weight + (T.shown engine.new.meta).weight + M.weight engine.new.state
+        ≤ (G.shown engine.old.log).weight + (T.shown engine.old.meta).weight + M.weight engine.old.state + frame_rise frame) }
     ensures refused { IfErr result (λ e. IsRefusal (Rose (D.faults disk.old) (D.faults disk.new)) (D.kind disk.old).limit e) }
-    ensures heavy { IfErr result (IsHeavy (D.kind disk.old).limit (G.weight engine.old.log + T.weight engine.old.meta + M.weight engine.old.state + frame_rise frame)) }
+    ensures heavy { IfErr result (IsHeavy (D.kind disk.old).limit ((G.shown engine.old.log).weight + (T.shown engine.old.meta).weight + M.weight engine.old.state + frame_rise frame)) }
 {
     match ask::<D, M>(engine.alloc, &engine.state, &engine.running, frame)? {
         Asked::Commit(command) => {
@@ -216,18 +216,18 @@ fn answer<D: Disk, G: LogStore<D>, T: MetaStore<D>, M: StateMachine<D>>(
 impl<D: Disk, G: LogStore<D>, T: MetaStore<D>, M: StateMachine<D>> Stepper<D> for Engine<G, T, M> {
     ghost use Rattle.den_core.specs.Joined.{joined_here};
 
-    ghost kv = { λ e. kv_of (T.hard_state e.meta) (M.map e.state) e.running };
+    ghost kv = { λ e. kv_of (T.shown e.meta).value (M.map e.state) e.running };
 
     ghost holds = { λ files. joined (G.holds files) (T.holds files) (M.holds files) };
 
-    ghost rests = { λ e content. AllRest (G.rests e.log content) (T.rests e.meta content) (M.rests e.state content) };
+    ghost rests = { λ e content. AllRest ((G.shown e.log).rests content) ((T.shown e.meta).rests content) (M.rests e.state content) };
 
-    ghost ready = { λ e. IsReady (G.ready e.log) (T.ready e.meta) (M.ready e.state) (G.log e.log) (M.map e.state) e.running };
+    ghost ready = { λ e. IsReady (G.shown e.log).ready (T.shown e.meta).ready (M.ready e.state) (G.shown e.log).value (M.map e.state) e.running };
 
-    ghost weight = { λ e. G.weight e.log + T.weight e.meta + M.weight e.state };
+    ghost weight = { λ e. (G.shown e.log).weight + (T.shown e.meta).weight + M.weight e.state };
 
-    ghost rests_hold = { λ e content files ready rests image. joined_here (G.holds files) (T.holds files) (M.holds files) (G.log e.log) (T.hard_state e.meta) (M.map e.state) ready.caught_up
-        (G.rests_hold e.log content files ready.log rests.log image) (T.rests_hold e.meta content files ready.meta rests.meta image) (M.rests_hold e.state content files ready.state rests.state image) };
+    ghost rests_hold = { λ e content files ready rests image. joined_here (G.holds files) (T.holds files) (M.holds files) (G.shown e.log).value (T.shown e.meta).value (M.map e.state) ready.caught_up
+        (G.lies.rests_hold e.log content files ready.log rests.log image) (T.lies.rests_hold e.meta content files ready.meta rests.meta image) (M.rests_hold e.state content files ready.state rests.state image) };
 
     fn open_at(&mut self, disk: &mut D, moment: u64) -> Result<(), Error> {
         raise(self, disk)?;

@@ -14,7 +14,7 @@ ghost use Rattle.den_model.specs.MapState.{map_applied_all};
 ghost use Rattle.den_model.specs.Sizes.{entries_size, store_rise};
 ghost use Rattle.den_map.specs.Leases.{asks_lease, has_expiry};
 ghost use Rattle.den_map.specs.Order.{out_of_order};
-ghost use Rattle.den_store.specs.Causes.{IsRefusal};
+ghost use Rattle.den_journal.specs.Causes.{IsRefusal};
 ghost use Rattle.den_core.specs.Opening.{agrees, opening_refusal, refusal_by, IsLeft, IsOpeningFailure};
 ghost use Rattle.den_core.specs.Parts.{kv_of, IsPlain, AllRest};
 ghost use Rattle.den_core.specs.Spared.{SparesFamily};
@@ -62,7 +62,7 @@ fn last_of(index: u64, entries: &[Entry]) -> u64
 
 /// The index up to which entries were purged.
 fn floor<D: Disk, G: LogStore<D>>(log: &G) -> u64
-    ensures { result ≡ floor (G.log log.now) }
+    ensures { result ≡ floor (G.shown log.now).value }
 {
     match log.load_purge_boundary() {
         Some(boundary) => boundary.index,
@@ -72,7 +72,7 @@ fn floor<D: Disk, G: LogStore<D>>(log: &G) -> u64
 
 /// The entries behind an index.
 fn entries_above<D: Disk, G: LogStore<D>>(log: &G, index: u64) -> Result<Rows<Entry>, Error>
-    ensures entries { IfOk result (λ entries. entries ≡ above index (G.log log.now).entries) }
+    ensures entries { IfOk result (λ entries. entries ≡ above index (G.shown log.now).value.entries) }
     ensures refused { IfErr result (λ e. e ≡ OutOfMemory) }
 {
     let last = log.last_index();
@@ -84,7 +84,7 @@ fn entries_above<D: Disk, G: LogStore<D>>(log: &G, index: u64) -> Result<Rows<En
 
 /// Whether the log goes on behind the map's mark without a gap, with these entries.
 fn agrees<D: Disk, G: LogStore<D>>(log: &G, mark: u64, entries: &[Entry]) -> bool
-    ensures { result ≡ agrees (G.log log.now) mark entries.now }
+    ensures { result ≡ agrees (G.shown log.now).value mark entries.now }
 {
     floor::<D, G>(log) <= mark && run_behind(mark, entries)
 }
@@ -105,9 +105,9 @@ fn refusal<D: Disk, G: LogStore<D>, T: MetaStore<D>>(
     entries: &[Entry],
     lease: bool,
 ) -> Option<Error>
-    ensures refusal { result ≡ refusal_by (G.place log.now) (agrees (G.log log.now) mark entries.now) lease
-        ((term_of (T.hard_state meta.now) == 2 ^ 64 - 1) || (last_of mark entries.now == 2 ^ 64 - 1)) }
-    ensures room { IfNone result ((term_of (T.hard_state meta.now) < 2 ^ 64 - 1) × (last_of mark entries.now < 2 ^ 64 - 1)) }
+    ensures refusal { result ≡ refusal_by (G.place log.now) (agrees (G.shown log.now).value mark entries.now) lease
+        ((term_of (T.shown meta.now).value == 2 ^ 64 - 1) || (last_of mark entries.now == 2 ^ 64 - 1)) }
+    ensures room { IfNone result ((term_of (T.shown meta.now).value < 2 ^ 64 - 1) × (last_of mark entries.now < 2 ^ 64 - 1)) }
 {
     if !agrees::<D, G>(log, mark, entries) {
         return Some(Error::DataCorruption {
@@ -163,25 +163,25 @@ fn catch_up<D: Disk, G: LogStore<D>, T: MetaStore<D>, M: StateMachine<D>>(
     running: Running,
     entries: &[Entry],
 ) -> Result<Engine<G, T, M>, Error>
-    requires log_ready { G.ready log }
-    requires meta_ready { T.ready meta }
+    requires log_ready { (G.shown log).ready }
+    requires meta_ready { (T.shown meta).ready }
     requires state_ready { M.ready state }
-    requires rests { IsTrue (D.kind disk.old).tells → AllRest (G.rests log (D.content disk.old)) (T.rests meta (D.content disk.old)) (M.rests state (D.content disk.old)) }
+    requires rests { IsTrue (D.kind disk.old).tells → AllRest ((G.shown log).rests (D.content disk.old)) ((T.shown meta).rests (D.content disk.old)) (M.rests state (D.content disk.old)) }
     requires plain { IsPlain running }
-    requires left { IsLeft (G.log log) (M.map state) entries.now }
+    requires left { IsLeft (G.shown log).value (M.map state) entries.now }
     requires no_ttl { asks_lease entries.now ≡ false }
     ensures disk { DiskGoesOn D.kind D.moment D.images D.faults disk.old disk.new }
     ensures snapshot { IsTrue (D.kind disk.old).tells → SparesFamily snapshot_family D.content D.moment D.images disk.old disk.new }
-    ensures survives { (kept : Durable) → IsTrue (D.kind disk.old).tells → durable (G.log log) (T.hard_state meta) (M.map state) ≡ Some kept
+    ensures survives { (kept : Durable) → IsTrue (D.kind disk.old).tells → durable (G.shown log).value (T.shown meta).value (M.map state) ≡ Some kept
         → Survives (λ files. joined (G.holds files) (T.holds files) (M.holds files)) (D.images disk.new) (D.moment disk.old) (D.moment disk.new) []
         (record { durable = kept; running = running }) [] }
-    ensures opened { IfOk result (λ engine. durable (G.log log) (T.hard_state meta) (M.map state) ≡ Some (⟦<Engine<G, T, M> as Stepper<D>>⟧.kv engine).durable) }
+    ensures opened { IfOk result (λ engine. durable (G.shown log).value (T.shown meta).value (M.map state) ≡ Some (⟦<Engine<G, T, M> as Stepper<D>>⟧.kv engine).durable) }
     ensures running { IfOk result (λ engine. (⟦<Engine<G, T, M> as Stepper<D>>⟧.kv engine).running ≡ running) }
     ensures ready { IfOk result (λ engine. ⟦<Engine<G, T, M> as Stepper<D>>⟧.ready engine) }
     ensures rests { IfOk result (λ engine. IsTrue (D.kind disk.old).tells → ⟦<Engine<G, T, M> as Stepper<D>>⟧.rests engine (D.content disk.new)) }
-    ensures weight { IfOk result (λ engine. ⟦<Engine<G, T, M> as Stepper<D>>⟧.weight engine ≤ G.weight log + T.weight meta + M.weight state + store_rise (entries_size entries.now)) }
+    ensures weight { IfOk result (λ engine. ⟦<Engine<G, T, M> as Stepper<D>>⟧.weight engine ≤ (G.shown log).weight + (T.shown meta).weight + M.weight state + store_rise (entries_size entries.now)) }
     ensures refused { IfErr result (λ e. IsRefusal (Rose (D.faults disk.old) (D.faults disk.new)) (D.kind disk.old).limit e) }
-    ensures heavy { IfErr result (IsHeavy (D.kind disk.old).limit (G.weight log + T.weight meta + M.weight state + store_rise (entries_size entries.now))) }
+    ensures heavy { IfErr result (IsHeavy (D.kind disk.old).limit ((G.shown log).weight + (T.shown meta).weight + M.weight state + store_rise (entries_size entries.now))) }
 {
     let mut state = state;
     apply_all(&mut state, disk, entries)?;
@@ -199,30 +199,30 @@ pub fn recover<D: Disk, G: LogStore<D>, T: MetaStore<D>, M: StateMachine<D>>(
     state: M,
     running: Running,
 ) -> Result<Engine<G, T, M>, Error>
-    requires log_ready { G.ready log }
-    requires meta_ready { T.ready meta }
+    requires log_ready { (G.shown log).ready }
+    requires meta_ready { (T.shown meta).ready }
     requires state_ready { M.ready state }
-    requires rests { IsTrue (D.kind disk.old).tells → AllRest (G.rests log (D.content disk.old)) (T.rests meta (D.content disk.old)) (M.rests state (D.content disk.old)) }
+    requires rests { IsTrue (D.kind disk.old).tells → AllRest ((G.shown log).rests (D.content disk.old)) ((T.shown meta).rests (D.content disk.old)) (M.rests state (D.content disk.old)) }
     requires plain { IsPlain running }
     ensures disk { DiskGoesOn D.kind D.moment D.images D.faults disk.old disk.new }
     ensures snapshot { IsTrue (D.kind disk.old).tells → SparesFamily snapshot_family D.content D.moment D.images disk.old disk.new }
-    ensures survives { (kept : Durable) → IsTrue (D.kind disk.old).tells → durable (G.log log) (T.hard_state meta) (M.map state) ≡ Some kept
+    ensures survives { (kept : Durable) → IsTrue (D.kind disk.old).tells → durable (G.shown log).value (T.shown meta).value (M.map state) ≡ Some kept
         → Survives (λ files. joined (G.holds files) (T.holds files) (M.holds files)) (D.images disk.new) (D.moment disk.old) (D.moment disk.new) []
         (record { durable = kept; running = running }) [] }
-    ensures opened { IfOk result (λ engine. durable (G.log log) (T.hard_state meta) (M.map state) ≡ Some (⟦<Engine<G, T, M> as Stepper<D>>⟧.kv engine).durable) }
+    ensures opened { IfOk result (λ engine. durable (G.shown log).value (T.shown meta).value (M.map state) ≡ Some (⟦<Engine<G, T, M> as Stepper<D>>⟧.kv engine).durable) }
     ensures running { IfOk result (λ engine. (⟦<Engine<G, T, M> as Stepper<D>>⟧.kv engine).running ≡ running) }
     ensures ready { IfOk result (λ engine. ⟦<Engine<G, T, M> as Stepper<D>>⟧.ready engine) }
     ensures rests { IfOk result (λ engine. IsTrue (D.kind disk.old).tells → ⟦<Engine<G, T, M> as Stepper<D>>⟧.rests engine (D.content disk.new)) }
     ensures term { IfOk result (λ engine. (⟦<Engine<G, T, M> as Stepper<D>>⟧.kv engine).durable.term < 2 ^ 64 - 1) }
     ensures index { IfOk result (λ engine. (⟦<Engine<G, T, M> as Stepper<D>>⟧.kv engine).durable.last_index < 2 ^ 64 - 1) }
     ensures weight { IfOk result (λ engine. ⟦<Engine<G, T, M> as Stepper<D>>⟧.weight engine
-        ≤ G.weight log + T.weight meta + M.weight state + store_rise (entries_size (above (M.map state).mark.index (G.log log).entries))) }
-    ensures unrefused { OnOk result (opening_refusal (G.place log) (G.log log) (T.hard_state meta) (M.map state) ≡ None) }
+        ≤ (G.shown log).weight + (T.shown meta).weight + M.weight state + store_rise (entries_size (above (M.map state).mark.index (G.shown log).value.entries))) }
+    ensures unrefused { OnOk result (opening_refusal (G.place log) (G.shown log).value (T.shown meta).value (M.map state) ≡ None) }
     ensures refused { IfErr result (λ e. IsOpeningFailure (Rose (D.faults disk.old) (D.faults disk.new)) (D.kind disk.old).limit
-        (opening_refusal (G.place log) (G.log log) (T.hard_state meta) (M.map state)) e) }
+        (opening_refusal (G.place log) (G.shown log).value (T.shown meta).value (M.map state)) e) }
     ensures heavy { IfErr result (IsHeavy (D.kind disk.old).limit
-        (G.weight log + T.weight meta + M.weight state + store_rise (entries_size (above (M.map state).mark.index (G.log log).entries)))) }
-    ensures untouched { IsSome (opening_refusal (G.place log) (G.log log) (T.hard_state meta) (M.map state)) → disk.new ≡ disk.old }
+        ((G.shown log).weight + (T.shown meta).weight + M.weight state + store_rise (entries_size (above (M.map state).mark.index (G.shown log).value.entries)))) }
+    ensures untouched { IsSome (opening_refusal (G.place log) (G.shown log).value (T.shown meta).value (M.map state)) → disk.new ≡ disk.old }
 {
     let mark = state.last_applied().index;
     let found = entries_above::<D, G>(&log, mark)?;

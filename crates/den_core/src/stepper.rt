@@ -7,7 +7,7 @@ ghost use Rattle.den_model.specs.Kv.{Durable, Kv};
 ghost use Rattle.den_model.specs.Plan.{after, output, opening, turn};
 ghost use Rattle.den_model.specs.Crash.{Survives};
 ghost use Rattle.den_model.specs.Frames.{IsBuiltFrame};
-ghost use Rattle.den_store.specs.Causes.{IsRefusal};
+ghost use Rattle.den_journal.specs.Causes.{IsRefusal};
 ghost use Rattle.den_codec.specs.Full.{IsHeavy};
 ghost use Rattle.den_core.specs.Answers.{frames_of};
 ghost use Rattle.den_core.specs.Spared.{SparesFamily};

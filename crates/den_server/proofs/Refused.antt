@@ -16,9 +16,9 @@ use Rattle.den_model.specs.MapState.{MapState}
 use Rattle.den_model.specs.Image.{Corruption, recovered, of_family, or_corrupt, ◌>>=◌, slot_of, log_in, hard_state_held, map_in, durable, durable_in, joined, ok}
 use Rattle.den_map.specs.Leases.{asks_lease, has_expiry}
 use Rattle.den_state.specs.Machine.{IsOpeningRefusal as IsStateRefusal}
-use Rattle.den_store.specs.Causes.{IsRefusal}
+use Rattle.den_journal.specs.Causes.{IsRefusal}
 use Rattle.den_store.specs.Engine.{IsFirstCorrupt}
-use Rattle.den_store.specs.Folding.{IsUnread}
+use Rattle.den_journal.specs.Folding.{IsUnread}
 use Rattle.den_core.specs.Opening.{refusal_for, opening_refusal, is_exhausted, IsOpeningFailure}
 use Rattle.den_server.specs.Causes.{IsUnreadFolder, IsOpeningRefusal}
 use Rattle.den_server.specs.Opening.{lease_asked, refusal_of, refusal_in, IsRead}

@@ -9,7 +9,7 @@ use Rattle.den_codec.specs.declared.error.Error.{Error}
 use Rattle.den_codec.specs.declared.error.Error.TheVariants as error
 use Rattle.den_model.specs.Kv.{Durable, Kv}
 use Rattle.den_model.specs.Crash.{Survives}
-use Rattle.den_store.specs.Opening.{IsSettled}
+use Rattle.den_journal.specs.Opening.{IsSettled}
 use Rattle.den_disk.specs.declared.place.Family.{Family}
 use Rattle.den_core.specs.Spared.{SparesFamily}
 use Rattle.den_server.specs.Opening.{Settles, SurvivesOpening}

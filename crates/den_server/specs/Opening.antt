@@ -13,8 +13,8 @@ use Rattle.den_model.specs.MapState.{MapState}
 use Rattle.den_model.specs.Step.{Step}
 use Rattle.den_store.specs.declared.log_store.FileLogStore.{FileLogStore}
 use Rattle.den_store.specs.declared.meta_store.FileMetaStore.{FileMetaStore}
-use Rattle.den_store.specs.FileLog.{log_weight}
-use Rattle.den_store.specs.FileMeta.{meta_weight}
+use Rattle.den_store.specs.FileLog.{log_shown}
+use Rattle.den_store.specs.FileMeta.{meta_shown}
 use Rattle.den_map.specs.Leases.{asks_lease, has_expiry}
 use Rattle.den_state.specs.declared.file_machine.FileStateMachine.{FileStateMachine}
 use Rattle.den_state.specs.Machine.{state_weight}
@@ -49,7 +49,7 @@ pub record AllReady (log_ready meta_ready state_ready : Type 0) : Type 0 where
 
 -- what the three weigh
 abbrev pub held_weight : FileLogStore → FileMetaStore → FileStateMachine → ℕ
-held_weight log meta state = log_weight log + meta_weight meta + state_weight state
+held_weight log meta state = (log_shown log).weight + (meta_shown meta).weight + state_weight state
 
 -- how heavy an engine is, at most, that was opened over files with so many bytes of regions
 abbrev pub opened_weight : ℕ → ℕ

@@ -2,7 +2,7 @@
 use Rattle.std.proofs.Common.{◌≡◌, ℕ, suc, ◌+◌, ◌-◌, ◌<◌, ◌≤◌, inl, inr, Bool, true, false, List, [], ◌∷◌, ◌++◌, length, get_or, Option, Some, None, refl, sym, ap, ◌∙◌, subst, arith}
 use Rattle.std.specs.List.{AllByRecursion}
 use Rattle.std.specs.Prelude.{nat_lt, nat_le, ◌==◌, ◌||◌, ◌&&◌, not, is_none, is_some, IfSome, if◌then◌else◌}
-use Rattle.std.proofs.lemmas.Bool.{ltb-true, ltb-false, lt-ltb, le-ltb, le-leb, lt-leb, leb-true, and_from, and_parts, or_cases, cond-true, cond-false, cases_Bool}
+use Rattle.std.proofs.lemmas.Bool.{eqb-true, ltb-true, ltb-false, lt-ltb, le-ltb, le-leb, lt-leb, leb-true, and_from, and_parts, or_cases, cond-true, cond-false, cases_Bool}
 use Rattle.den_model.specs.declared.log_id.LogId.{LogId}
 use Rattle.den_model.specs.declared.region.LogRegion.TheVariants.{Append, Purge, Replace}
 use Rattle.den_model.specs.Entries.{LogEntry, EntriesFrom, rise_above, rise_from, begin_from}
@@ -132,3 +132,7 @@ append_made es some rise = ap (λ b. if b then Some es else None) (and_from (nat
 pub some_there : (es : List LogEntry) → (length es == 0) ≡ false → 0 < length es
 some_there [] none = absurd (cc none)
 some_there (e ∷ es) none = omega arith
+
+pub none_there : (es : List LogEntry) → (length es == 0) ≡ true → length es ≤ 0
+none_there [] none = omega arith
+none_there (e ∷ es) none = absurd (omega (arith, eqb-true (length (e ∷ es)) 0 none))

@@ -2,22 +2,8 @@
 use Rattle.std.specs.Prelude.{◌≡◌, ◌⊎◌, ℕ, Err, IsOk}
 use Rattle.den_disk.specs.declared.place.Family.TheVariants.{Log as log_family, Meta as meta_family}
 use Rattle.den_disk.specs.Place.{place_number}
-use Rattle.den_disk.specs.Files.{Files, Content}
+use Rattle.den_disk.specs.Files.{Files}
 use Rattle.den_model.specs.Image.{slot_of, log_in, hard_state_held}
-use Rattle.den_store.specs.declared.log_store.FileLogStore.{FileLogStore}
-use Rattle.den_store.specs.declared.meta_store.FileMetaStore.{FileMetaStore}
-use Rattle.den_store.specs.FileLog.{IsLogReady, LogRests}
-use Rattle.den_store.specs.FileMeta.{IsMetaReady, MetaRests}
-
--- neither store has failed
-pub record BothReady (log : FileLogStore) (meta : FileMetaStore) : Type 0 where
-  pub log_ready : IsLogReady log
-  pub meta_ready : IsMetaReady meta
-
--- the files of both lie as their last calls left them
-pub record BothRest (log : FileLogStore) (meta : FileMetaStore) (c : Content) : Type 0 where
-  pub log_rests : LogRests log c
-  pub meta_rests : MetaRests meta c
 
 -- the log's files are corrupt there, or the log's are not and those of the hard state are
 abbrev pub IsFirstCorrupt : Files → ℕ → ℕ → Type 0

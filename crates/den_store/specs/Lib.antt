@@ -1,11 +1,9 @@
-pub mod Causes
+pub mod Changes
 pub mod Engine
 pub mod FileLog
 pub mod FileMeta
-pub mod Folding
+pub mod Folds
 pub mod Held
+pub mod LastState
 pub mod Lookup
-pub mod Meanings
-pub mod Opening
 pub mod Order
-pub mod Refused

@@ -3,15 +3,16 @@ ghost use Rattle.std.specs.Prelude.{◌≡◌, ◌≤◌, IsTrue, Ok, IfOk, IfEr
 ghost use Rattle.std.specs.Borrow.{sem, Lends};
 ghost use Rattle.den_disk.specs.declared.place.Family.TheVariants.{Log as log_family, Meta as meta_family};
 ghost use Rattle.den_disk.specs.Place.{place_number};
-ghost use Rattle.den_disk.specs.Goes.{DiskGoesOn, Rose};
+ghost use Rattle.den_disk.specs.Goes.{Rose};
 ghost use Rattle.den_disk.specs.Families.{SparesAll, NoNewImages};
 ghost use Rattle.den_model.specs.Image.{slot_of, log_in, hard_state_held};
 ghost use Rattle.den_model.specs.Sizes.{entries_size, family_size};
-ghost use Rattle.den_store.specs.Engine.{BothReady, BothRest, IsFirstCorrupt};
-ghost use Rattle.den_store.specs.FileLog.{file_log, file_place, log_weight};
-ghost use Rattle.den_store.specs.FileMeta.{file_state, meta_weight};
-ghost use Rattle.den_store.specs.Folding.{IsUnread};
-ghost use Rattle.den_store.specs.Opening.{IsSettled};
+ghost use Rattle.den_journal.specs.Folding.{IsUnread};
+ghost use Rattle.den_journal.specs.Opening.{IsSettled};
+ghost use Rattle.den_journal.specs.Writes.{GoesOn, IsOpened};
+ghost use Rattle.den_store.specs.Engine.{IsFirstCorrupt};
+ghost use Rattle.den_store.specs.FileLog.{file_place, log_shown};
+ghost use Rattle.den_store.specs.FileMeta.{meta_shown};
 
 use crate::{FileLogStore, FileMetaStore, LogStore, MetaStore};
 use den_codec::{Error, Label};
@@ -75,19 +76,15 @@ impl FileStorageEngine {
         data_dir: Label,
         disk: &mut D,
     ) -> Result<FileStorageEngine, Error>
-        ensures disk { DiskGoesOn D.kind D.moment D.images D.faults disk.old disk.new }
+        ensures goes_on { GoesOn D.Disk disk.old disk.new }
         ensures images { IsTrue (D.kind disk.old).tells → NoNewImages (D.images disk.old) (D.images disk.new) (D.moment disk.old) (D.moment disk.new) }
         ensures spares { IsTrue (D.kind disk.old).tells → SparesAll (D.content disk.old) (D.content disk.new) }
         ensures settled { IsTrue (D.kind disk.old).tells → IsSettled result (D.content disk.old) (D.content disk.new) }
         ensures data_dir { IfOk result (λ s. s.data_dir ≡ data_dir) }
-        ensures log { IsTrue (D.kind disk.old).tells → IfOk result (λ s. log_in (D.content disk.old).reading ≡ Ok (file_log s.log)) }
-        ensures hard_state { IsTrue (D.kind disk.old).tells → IfOk result (λ s. hard_state_held (D.content disk.old).reading ≡ Ok (file_state s.meta)) }
-        ensures log_weight { IsTrue (D.kind disk.old).tells → IfOk result (λ s. log_weight s.log ≡ family_size log_family (D.content disk.old).reading) }
-        ensures entries { IsTrue (D.kind disk.old).tells → IfOk result (λ s. entries_size (file_log s.log).entries ≤ family_size log_family (D.content disk.old).reading) }
-        ensures meta_weight { IsTrue (D.kind disk.old).tells → IfOk result (λ s. meta_weight s.meta ≡ family_size meta_family (D.content disk.old).reading) }
+        ensures log { IfOk result (λ s. IsOpened D.Disk log_family log_in (log_shown s.log) disk.old disk.new) }
+        ensures meta { IfOk result (λ s. IsOpened D.Disk meta_family hard_state_held (meta_shown s.meta) disk.old disk.new) }
+        ensures entries { IsTrue (D.kind disk.old).tells → IfOk result (λ s. entries_size (log_shown s.log).value.entries ≤ family_size log_family (D.content disk.old).reading) }
         ensures place { IsTrue (D.kind disk.old).tells → IfOk result (λ s. file_place s.log ≡ place_number (slot_of log_family (D.content disk.old).reading)) }
-        ensures ready { IfOk result (λ s. BothReady s.log s.meta) }
-        ensures rests { IsTrue (D.kind disk.old).tells → IfOk result (λ s. BothRest s.log s.meta (D.content disk.new)) }
         ensures refused { IfErr result (IsUnread (Rose (D.faults disk.old) (D.faults disk.new)) (λ place offset. IsTrue (D.kind disk.old).tells → IsFirstCorrupt (D.content disk.old).reading place offset)) }
     {
         let log = match FileLogStore::new(alloc, disk) {

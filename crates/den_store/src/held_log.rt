@@ -8,7 +8,9 @@ ghost use Rattle.den_store.specs.Lookup.{entry_at, entries_of};
 ghost use Rattle.den_store.specs.Order.{IsInOrder};
 
 use crate::copies::copied;
-use den_codec::{Entry, LogId, LogRegion, Rows};
+use den_codec::{Entry, LogId, LogRegion, Rows, Word};
+use den_disk::Family;
+use den_journal::Folded;
 use std::alloc::{AllocError, Global};
 
 #[derive(Drop)]
@@ -20,15 +22,6 @@ pub(crate) struct HeldLog {
 
 impl HeldLog {
     ghost use Rattle.den_store.specs.Held.{log_of};
-
-    pub(crate) fn empty(alloc: Global) -> HeldLog
-        ensures { log_of result ≡ empty_log }
-    {
-        HeldLog {
-            boundary: None,
-            entries: Vec::new(alloc),
-        }
-    }
 
     // The boundary's index, or 0.
     pub(crate) fn floor(&self) -> u64
@@ -146,14 +139,69 @@ impl HeldLog {
     }
 }
 
-impl HeldLog {
+impl Folded for HeldLog {
+    ghost use Rattle.std.specs.Prelude.{ℕ};
+    ghost use Rattle.den_disk.specs.declared.place.Family.TheVariants.{Log as log_family};
+    ghost use Rattle.den_model.specs.Log.{Log, log_from, log_after_payload};
+    ghost use Rattle.den_model.specs.Sizes.{entries_size, store_rise};
     ghost use Rattle.den_store.specs.Held.{log_of};
+    ghost use Rattle.den_store.specs.Folds.{logs_fold, log_again, log_rises};
+
+    type Region = LogRegion;
+
+    ghost FAMILY = { log_family };
+
+    const FAMILY: Family = Family::Log;
+
+    ghost Value = { Log };
+
+    ghost value = { log_of };
+
+    ghost empty = { empty_log };
+
+    ghost after = { log_after_payload };
+
+    ghost from = { log_from };
+
+    ghost lawful = { λ l r. is_lawful l r ≡ true };
+
+    ghost changed = { changed };
+
+    ghost roomy = { λ h r. vec_len h.entries + length (entries_of r) ≤ vec_capacity h.entries };
+
+    ghost rise = { λ r. store_rise (entries_size (entries_of r)) };
+
+    ghost lost = { λ r. ⊥ };
+
+    ghost size = { λ l. entries_size l.entries };
+
+    ghost folds = { logs_fold };
+
+    ghost again = { log_again };
+
+    ghost rises = { log_rises };
+
+    fn empty(alloc: Global) -> HeldLog {
+        HeldLog {
+            boundary: None,
+            entries: Vec::new(alloc),
+        }
+    }
+
+    fn take(&mut self, alloc: Global, payload: &[u8]) -> Result<bool, AllocError> {
+        let Some(region) = LogRegion::read(alloc, payload)? else {
+            return Ok(false);
+        };
+        if !self.admits(&region) {
+            return Ok(false);
+        }
+        self.make_room(&region)?;
+        self.settle(region)?;
+        Ok(true)
+    }
 
     // Makes room for the entries that a region adds.
-    pub(crate) fn make_room(&mut self, region: &LogRegion) -> Result<(), AllocError>
-        ensures log { log_of self.new ≡ log_of self.old }
-        ensures room { OnOk result (vec_len self.new.entries + length (entries_of region.now) ≤ vec_capacity self.new.entries) }
-    {
+    fn make_room(&mut self, region: &LogRegion) -> Result<(), AllocError> {
         match region {
             LogRegion::Append { entries } => self.reserve(entries.as_slice().len()),
             LogRegion::Replace { replacement } => self.reserve(replacement.as_slice().len()),
@@ -161,13 +209,7 @@ impl HeldLog {
         }
     }
 
-    // Makes of the log what a region makes of it. Takes no memory.
-    pub(crate) fn settle(&mut self, region: LogRegion)
-        requires lawful { is_lawful (log_of self.old) region ≡ true }
-        requires fits { FitsLogRegion region }
-        requires room { vec_len self.old.entries + length (entries_of region) ≤ vec_capacity self.old.entries }
-        ensures { log_of self.new ≡ changed (log_of self.old) region }
-    {
+    fn settle(&mut self, region: LogRegion) -> Result<(), AllocError> {
         match region {
             LogRegion::Append { entries } => {
                 let from = entries.as_slice()[0].index();
@@ -181,16 +223,6 @@ impl HeldLog {
             }
             LogRegion::Reset => self.reset(),
         }
-    }
-
-    // The same, with the memory that it takes.
-    pub(crate) fn take(&mut self, region: LogRegion) -> Result<(), AllocError>
-        requires lawful { is_lawful (log_of self.old) region ≡ true }
-        requires fits { FitsLogRegion region }
-        ensures { OnOk result (log_of self.new ≡ changed (log_of self.old) region) }
-    {
-        self.make_room(&region)?;
-        self.settle(region);
         Ok(())
     }
 }

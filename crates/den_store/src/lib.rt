@@ -3,11 +3,10 @@
 
 mod copies;
 mod engine;
-mod family;
 mod held_log;
+mod last_state;
 mod log_store;
 mod meta_store;
-mod replay;
 #[cfg(test)]
 mod rows;
 mod stores;

@@ -1,8 +1,9 @@
 //! Worked rows: a log from its bytes, edits of it, and random edits beside a plain list of pairs.
 ghost use Rattle.std.specs.Prelude.{◌≡◌, ◌<◌, IsTrue, IfSome, IfOk, OnOk};
 ghost use Rattle.den_model.specs.Log.{floor};
-ghost use Rattle.den_store.specs.Engine.{BothReady, BothRest};
-ghost use Rattle.den_store.specs.FileLog.{file_log, IsLogReady, LogRests};
+ghost use Rattle.den_journal.specs.Writes.{Stands};
+ghost use Rattle.den_store.specs.FileLog.{log_shown};
+ghost use Rattle.den_store.specs.FileMeta.{meta_shown};
 
 use crate::{FileLogStore, FileStorageEngine, LogStore, MetaStore, StorageEngine};
 use den_codec::{Command, Entry, HardState, Label, LogId, Rows, VotedFor};
@@ -135,7 +136,7 @@ struct Bench {
 }
 
 fn floor_of(store: &FileLogStore) -> u64
-    ensures { result ≡ floor (file_log store.now) }
+    ensures { result ≡ floor (log_shown store.now).value }
 {
     match LogStore::<MemDisk>::load_purge_boundary(store) {
         None => 0,
@@ -145,7 +146,7 @@ fn floor_of(store: &FileLogStore) -> u64
 
 // Whether there is no boundary, or it is below this index.
 fn is_above(store: &FileLogStore, from: u64) -> bool
-    ensures { IsTrue result → IfSome (file_log store.now).boundary (λ b. b.index < from) }
+    ensures { IsTrue result → IfSome (log_shown store.now).value.boundary (λ b. b.index < from) }
 {
     match LogStore::<MemDisk>::load_purge_boundary(store) {
         None => true,
@@ -155,10 +156,10 @@ fn is_above(store: &FileLogStore, from: u64) -> bool
 
 // Adds entries, which have to rise above the boundary.
 fn persist(disk: &mut MemDisk, store: &mut FileLogStore, entries: &[Entry]) -> Result<(), Fail>
-    requires ready { IsLogReady store.old }
-    requires rests { LogRests store.old (⟦<MemDisk as Disk>⟧.content disk.old) }
-    ensures ready { OnOk result (IsLogReady store.new) }
-    ensures rests { OnOk result (LogRests store.new (⟦<MemDisk as Disk>⟧.content disk.new)) }
+    requires ready { (log_shown store.old).ready }
+    requires rests { (log_shown store.old).rests (⟦<MemDisk as Disk>⟧.content disk.old) }
+    ensures ready { OnOk result (log_shown store.new).ready }
+    ensures rests { OnOk result ((log_shown store.new).rests (⟦<MemDisk as Disk>⟧.content disk.new)) }
 {
     let from = floor_of(store).checked_add(1).ok_or("a great floor")?;
     if !rise_from(from, entries) {
@@ -170,26 +171,26 @@ fn persist(disk: &mut MemDisk, store: &mut FileLogStore, entries: &[Entry]) -> R
 
 impl Bench {
     fn open(alloc: Global, mut disk: MemDisk) -> Result<Bench, Fail>
-        ensures ready { IfOk result (λ b. IsLogReady b.store) }
-        ensures rests { IfOk result (λ b. LogRests b.store (⟦<MemDisk as Disk>⟧.content b.disk)) }
+        ensures ready { IfOk result (λ b. (log_shown b.store).ready) }
+        ensures rests { IfOk result (λ b. (log_shown b.store).rests (⟦<MemDisk as Disk>⟧.content b.disk)) }
     {
         let store = FileLogStore::new(alloc, &mut disk)?;
         Ok(Bench { alloc, disk, store })
     }
 
     fn reopened(self) -> Result<Bench, Fail>
-        ensures ready { IfOk result (λ b. IsLogReady b.store) }
-        ensures rests { IfOk result (λ b. LogRests b.store (⟦<MemDisk as Disk>⟧.content b.disk)) }
+        ensures ready { IfOk result (λ b. (log_shown b.store).ready) }
+        ensures rests { IfOk result (λ b. (log_shown b.store).rests (⟦<MemDisk as Disk>⟧.content b.disk)) }
     {
         Bench::open(self.alloc, self.disk)
     }
 
     // Opened anew after each tenth turn.
     fn rested(self, turn: u64) -> Result<Bench, Fail>
-        requires ready { IsLogReady self.store }
-        requires rests { LogRests self.store (⟦<MemDisk as Disk>⟧.content self.disk) }
-        ensures ready { IfOk result (λ b. IsLogReady b.store) }
-        ensures rests { IfOk result (λ b. LogRests b.store (⟦<MemDisk as Disk>⟧.content b.disk)) }
+        requires ready { (log_shown self.store).ready }
+        requires rests { (log_shown self.store).rests (⟦<MemDisk as Disk>⟧.content self.disk) }
+        ensures ready { IfOk result (λ b. (log_shown b.store).ready) }
+        ensures rests { IfOk result (λ b. (log_shown b.store).rests (⟦<MemDisk as Disk>⟧.content b.disk)) }
     {
         if turn % 10 == 0 {
             return self.reopened();
@@ -198,10 +199,10 @@ impl Bench {
     }
 
     fn persist(self, pairs: &[(u64, u64)]) -> Result<Bench, Fail>
-        requires ready { IsLogReady self.store }
-        requires rests { LogRests self.store (⟦<MemDisk as Disk>⟧.content self.disk) }
-        ensures ready { IfOk result (λ b. IsLogReady b.store) }
-        ensures rests { IfOk result (λ b. LogRests b.store (⟦<MemDisk as Disk>⟧.content b.disk)) }
+        requires ready { (log_shown self.store).ready }
+        requires rests { (log_shown self.store).rests (⟦<MemDisk as Disk>⟧.content self.disk) }
+        ensures ready { IfOk result (λ b. (log_shown b.store).ready) }
+        ensures rests { IfOk result (λ b. (log_shown b.store).rests (⟦<MemDisk as Disk>⟧.content b.disk)) }
     {
         let Bench {
             alloc,
@@ -214,10 +215,10 @@ impl Bench {
     }
 
     fn replace(self, from: u64, pairs: &[(u64, u64)]) -> Result<Bench, Fail>
-        requires ready { IsLogReady self.store }
-        requires rests { LogRests self.store (⟦<MemDisk as Disk>⟧.content self.disk) }
-        ensures ready { IfOk result (λ b. IsLogReady b.store) }
-        ensures rests { IfOk result (λ b. LogRests b.store (⟦<MemDisk as Disk>⟧.content b.disk)) }
+        requires ready { (log_shown self.store).ready }
+        requires rests { (log_shown self.store).rests (⟦<MemDisk as Disk>⟧.content self.disk) }
+        ensures ready { IfOk result (λ b. (log_shown b.store).ready) }
+        ensures rests { IfOk result (λ b. (log_shown b.store).rests (⟦<MemDisk as Disk>⟧.content b.disk)) }
     {
         let Bench {
             alloc,
@@ -233,10 +234,10 @@ impl Bench {
     }
 
     fn purge(self, cutoff: LogId) -> Result<Bench, Fail>
-        requires ready { IsLogReady self.store }
-        requires rests { LogRests self.store (⟦<MemDisk as Disk>⟧.content self.disk) }
-        ensures ready { IfOk result (λ b. IsLogReady b.store) }
-        ensures rests { IfOk result (λ b. LogRests b.store (⟦<MemDisk as Disk>⟧.content b.disk)) }
+        requires ready { (log_shown self.store).ready }
+        requires rests { (log_shown self.store).rests (⟦<MemDisk as Disk>⟧.content self.disk) }
+        ensures ready { IfOk result (λ b. (log_shown b.store).ready) }
+        ensures rests { IfOk result (λ b. (log_shown b.store).rests (⟦<MemDisk as Disk>⟧.content b.disk)) }
     {
         let Bench {
             alloc,
@@ -248,10 +249,10 @@ impl Bench {
     }
 
     fn truncate(self, from: u64) -> Result<Bench, Fail>
-        requires ready { IsLogReady self.store }
-        requires rests { LogRests self.store (⟦<MemDisk as Disk>⟧.content self.disk) }
-        ensures ready { IfOk result (λ b. IsLogReady b.store) }
-        ensures rests { IfOk result (λ b. LogRests b.store (⟦<MemDisk as Disk>⟧.content b.disk)) }
+        requires ready { (log_shown self.store).ready }
+        requires rests { (log_shown self.store).rests (⟦<MemDisk as Disk>⟧.content self.disk) }
+        ensures ready { IfOk result (λ b. (log_shown b.store).ready) }
+        ensures rests { IfOk result (λ b. (log_shown b.store).rests (⟦<MemDisk as Disk>⟧.content b.disk)) }
     {
         let Bench {
             alloc,
@@ -263,10 +264,10 @@ impl Bench {
     }
 
     fn reset(self) -> Result<Bench, Fail>
-        requires ready { IsLogReady self.store }
-        requires rests { LogRests self.store (⟦<MemDisk as Disk>⟧.content self.disk) }
-        ensures ready { IfOk result (λ b. IsLogReady b.store) }
-        ensures rests { IfOk result (λ b. LogRests b.store (⟦<MemDisk as Disk>⟧.content b.disk)) }
+        requires ready { (log_shown self.store).ready }
+        requires rests { (log_shown self.store).rests (⟦<MemDisk as Disk>⟧.content self.disk) }
+        ensures ready { IfOk result (λ b. (log_shown b.store).ready) }
+        ensures rests { IfOk result (λ b. (log_shown b.store).rests (⟦<MemDisk as Disk>⟧.content b.disk)) }
     {
         let Bench {
             alloc,
@@ -278,10 +279,10 @@ impl Bench {
     }
 
     fn make(self, edit: &Edit) -> Result<Bench, Fail>
-        requires ready { IsLogReady self.store }
-        requires rests { LogRests self.store (⟦<MemDisk as Disk>⟧.content self.disk) }
-        ensures ready { IfOk result (λ b. IsLogReady b.store) }
-        ensures rests { IfOk result (λ b. LogRests b.store (⟦<MemDisk as Disk>⟧.content b.disk)) }
+        requires ready { (log_shown self.store).ready }
+        requires rests { (log_shown self.store).rests (⟦<MemDisk as Disk>⟧.content self.disk) }
+        ensures ready { IfOk result (λ b. (log_shown b.store).ready) }
+        ensures rests { IfOk result (λ b. (log_shown b.store).rests (⟦<MemDisk as Disk>⟧.content b.disk)) }
     {
         match edit {
             Edit::Persist(pairs) => self.persist(pairs.as_slice()),
@@ -470,8 +471,8 @@ fn random_edits(rt: HostRuntime) -> Result<(), Fail> {
 }
 
 fn engine_of(alloc: Global, disk: &mut MemDisk) -> Result<FileStorageEngine, Fail>
-    ensures ready { IfOk result (λ s. BothReady s.log s.meta) }
-    ensures rests { IfOk result (λ s. BothRest s.log s.meta (⟦<MemDisk as Disk>⟧.content disk.new)) }
+    ensures log { IfOk result (λ s. Stands ⟦<MemDisk as Disk>⟧ (log_shown s.log) disk.new) }
+    ensures meta { IfOk result (λ s. Stands ⟦<MemDisk as Disk>⟧ (meta_shown s.meta) disk.new) }
 {
     Ok(FileStorageEngine::new(alloc, Label::of(alloc, "data")?, disk)?)
 }

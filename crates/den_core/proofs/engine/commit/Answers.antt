@@ -1,5 +1,6 @@
 use Rattle.std.proofs.Common.{IsTrue, [], ◌∷◌, Some, refl, sym, ap, subst, ◌∙◌, arith}
 use Rattle.den_disk.specs.Families.{OldOrNew}
+use Rattle.den_journal.proofs.Moving.{old_or_new}
 use Rattle.den_disk.specs.Files.{Kind}
 use Rattle.den_model.specs.Apply.{applied}
 use Rattle.den_model.specs.declared.region.LogRegion.TheVariants.{Append}
@@ -19,29 +20,29 @@ returns-in_err-persist_entries-clause-moves g c = λ told.
     let engine = c.args.engine.now in
     let disk = c.args.disk.now in
     let persist = c.persist_entries.ensures in
-    let h = g.T.MetaStore.hard_state engine.meta in
+    let h = (g.T.MetaStore.shown engine.meta).value in
     let s = g.M.StateMachine.map engine.state in
     let is = next_is h s engine.running _ _ c.args.moment c.args.command c.of.result c.of.ensures (ap (λ i. i.index) c.last_applied-index.ensures) c.current_term-term.ensures in
     let next = ap (λ e. e.index) is in
     subst (λ e. OldOrNew (λ files. joined (g.G.LogStore.holds files) (g.T.MetaStore.holds files) (g.M.StateMachine.holds files)) (D.images c.persist_entries.new.disk) (D.moment disk) (D.moment c.persist_entries.new.disk) (durable_of h s) (applied (durable_of h s) e)) is
     (log_moves g.G.LogStore.holds g.T.MetaStore.holds g.M.StateMachine.holds _ _ _ _ _ _ _ _ _
-    (durable_is (g.G.LogStore.log engine.log) h s c.requires.ready.caught_up)
-    (logged_is (g.G.LogStore.log engine.log) s c.of.result c.requires.ready.caught_up next h)
-    (persist.own told)
-    (spared _ _ _ _ _ _ _ _ meta_log g.met.T.MetaStore.holds_own
-    (gives_now _ (g.T.MetaStore.rests engine.meta) _ _ _ _ (λ files. g.met.D.Disk.images_now disk files told)
-    (λ files rest at. g.met.T.MetaStore.rests_hold engine.meta (D.content disk) files c.requires.ready.meta rest at) (c.requires.rests told).meta) (persist.others told))
+    (durable_is (g.G.LogStore.shown engine.log).value h s c.requires.ready.caught_up)
+    (logged_is (g.G.LogStore.shown engine.log).value s c.of.result c.requires.ready.caught_up next h)
+    (old_or_new (persist.writes.moves told))
+    (spared _ _ _ _ _ _ _ _ meta_log g.met.T.MetaStore.lies.holds_own
+    (gives_now _ (g.T.MetaStore.shown engine.meta).rests _ _ _ _ (λ files. g.met.D.Disk.images_now disk files told)
+    (λ files rest at. g.met.T.MetaStore.lies.rests_hold engine.meta (D.content disk) files c.requires.ready.meta rest at) (c.requires.rests told).meta) ((persist.writes.moves told).others))
     (spared _ _ _ _ _ _ _ _ state_log g.met.M.StateMachine.holds_own
     (gives_now _ (g.M.StateMachine.rests engine.state) _ _ _ _ (λ files. g.met.D.Disk.images_now disk files told)
-    (λ files rest at. g.met.M.StateMachine.rests_hold engine.state (D.content disk) files c.requires.ready.state rest at) (c.requires.rests told).state) (persist.others told)))
+    (λ files rest at. g.met.M.StateMachine.rests_hold engine.state (D.content disk) files c.requires.ready.state rest at) (c.requires.rests told).state) ((persist.writes.moves told).others)))
 
 -- the map's files lie as before behind the append
 pub apply_at_rest-requires-clause-rests : goal.apply_at_rest-requires-clause-rests
 apply_at_rest-requires-clause-rests g c = λ then.
     let persist = c.in_ok-persist_entries.ensures in
-    let told : IsTrue (g.D.Disk.kind c.args.disk.now).tells = subst (λ k. IsTrue k.tells) persist.disk.same then in
+    let told : IsTrue (g.D.Disk.kind c.args.disk.now).tells = subst (λ k. IsTrue k.tells) persist.writes.goes_on.same then in
     let engine = c.args.engine.now in
-    g.met.M.StateMachine.rests_own engine.state _ _ (apart_own _ _ _ _ state_log (persist.spares told)) (c.requires.rests told).state
+    g.met.M.StateMachine.rests_own engine.state _ _ (apart_own _ _ _ _ state_log ((persist.writes.moves told).spares)) (c.requires.rests told).state
 
 pub returns-in_err-results-clause-moves : goal.returns-in_err-results-clause-moves
 returns-in_err-results-clause-moves g c = λ told.
@@ -51,33 +52,33 @@ returns-in_err-results-clause-moves g c = λ told.
     let between = c.persist_entries.new.disk in
     let persist = c.in_ok-persist_entries.ensures in
     let apply = c.apply_at_rest.ensures in
-    let then : IsTrue (D.kind between).tells = subst (λ k. IsTrue k.tells) (sym persist.disk.same) told in
-    let l = g.G.LogStore.log engine.log in
-    let h = g.T.MetaStore.hard_state engine.meta in
+    let then : IsTrue (D.kind between).tells = subst (λ k. IsTrue k.tells) (sym persist.writes.goes_on.same) told in
+    let l = (g.G.LogStore.shown engine.log).value in
+    let h = (g.T.MetaStore.shown engine.meta).value in
     let s = g.M.StateMachine.map engine.state in
     let is = next_is h s engine.running _ _ c.args.moment c.args.command c.of.result c.of.ensures (ap (λ i. i.index) c.last_applied-index.ensures) c.current_term-term.ensures in
     let next = ap (λ e. e.index) is in
     let caught = c.requires.ready.caught_up in
-    let meta_rests = g.met.T.MetaStore.rests_own engine.meta _ _ (apart_own _ _ _ _ meta_log (persist.spares told)) (c.requires.rests told).meta in
+    let meta_rests = g.met.T.MetaStore.lies.rests_own engine.meta _ _ (apart_own _ _ _ _ meta_log ((persist.writes.moves told).spares)) (c.requires.rests told).meta in
     subst (λ e. OldOrNew (λ files. joined (g.G.LogStore.holds files) (g.T.MetaStore.holds files) (g.M.StateMachine.holds files)) (D.images c.apply_at_rest.new.disk) (D.moment disk) (D.moment c.apply_at_rest.new.disk) (durable_of h s) (applied (durable_of h s) e)) is
     (moves_then _ _ _ _ (D.moment between) _ _ _ (apply.disk.told then).past
     (log_moves g.G.LogStore.holds g.T.MetaStore.holds g.M.StateMachine.holds _ _ _ _ _ _ _ _ _
     (durable_is l h s caught) (logged_is l s c.of.result caught next h)
-    (persist.own told)
-    (spared _ _ _ _ _ _ _ _ meta_log g.met.T.MetaStore.holds_own
-    (gives_now _ (g.T.MetaStore.rests engine.meta) _ _ _ _ (λ files. g.met.D.Disk.images_now disk files told)
-    (λ files rest at. g.met.T.MetaStore.rests_hold engine.meta (D.content disk) files c.requires.ready.meta rest at) (c.requires.rests told).meta) (persist.others told))
+    (old_or_new (persist.writes.moves told))
+    (spared _ _ _ _ _ _ _ _ meta_log g.met.T.MetaStore.lies.holds_own
+    (gives_now _ (g.T.MetaStore.shown engine.meta).rests _ _ _ _ (λ files. g.met.D.Disk.images_now disk files told)
+    (λ files rest at. g.met.T.MetaStore.lies.rests_hold engine.meta (D.content disk) files c.requires.ready.meta rest at) (c.requires.rests told).meta) ((persist.writes.moves told).others))
     (spared _ _ _ _ _ _ _ _ state_log g.met.M.StateMachine.holds_own
     (gives_now _ (g.M.StateMachine.rests engine.state) _ _ _ _ (λ files. g.met.D.Disk.images_now disk files told)
-    (λ files rest at. g.met.M.StateMachine.rests_hold engine.state (D.content disk) files c.requires.ready.state rest at) (c.requires.rests told).state) (persist.others told)))
+    (λ files rest at. g.met.M.StateMachine.rests_hold engine.state (D.content disk) files c.requires.ready.state rest at) (c.requires.rests told).state) ((persist.writes.moves told).others)))
     (state_moves g.G.LogStore.holds g.T.MetaStore.holds g.M.StateMachine.holds _ _ _ _ _ _ _ _ _
     (logged_is l s c.of.result caught next h) (applied_again l h s c.of.result caught next)
-    (spared _ _ _ _ _ _ _ _ log_state g.met.G.LogStore.holds_own
-    (gives_now _ (g.G.LogStore.rests c.persist_entries.new.self) _ _ _ _ (λ files. g.met.D.Disk.images_now between files then)
-    (λ files rest at. g.met.G.LogStore.rests_hold c.persist_entries.new.self (D.content between) files persist.ready rest at ∙ ap (λ x. Some x) persist.persisted) (persist.rests told)) (apply.others then))
-    (spared _ _ _ _ _ _ _ _ meta_state g.met.T.MetaStore.holds_own
-    (gives_now _ (g.T.MetaStore.rests engine.meta) _ _ _ _ (λ files. g.met.D.Disk.images_now between files then)
-    (λ files rest at. g.met.T.MetaStore.rests_hold engine.meta (D.content between) files c.requires.ready.meta rest at) meta_rests) (apply.others then))
+    (spared _ _ _ _ _ _ _ _ log_state g.met.G.LogStore.lies.holds_own
+    (gives_now _ (g.G.LogStore.shown c.persist_entries.new.self).rests _ _ _ _ (λ files. g.met.D.Disk.images_now between files then)
+    (λ files rest at. g.met.G.LogStore.lies.rests_hold c.persist_entries.new.self (D.content between) files persist.writes.done.ready rest at ∙ ap (λ x. Some x) persist.writes.done.value) (persist.writes.done.rests told)) (apply.others then))
+    (spared _ _ _ _ _ _ _ _ meta_state g.met.T.MetaStore.lies.holds_own
+    (gives_now _ (g.T.MetaStore.shown engine.meta).rests _ _ _ _ (λ files. g.met.D.Disk.images_now between files then)
+    (λ files rest at. g.met.T.MetaStore.lies.rests_hold engine.meta (D.content between) files c.requires.ready.meta rest at) meta_rests) (apply.others then))
     (apply.own then)))
 
 pub returns-clause-moves : goal.returns-clause-moves
@@ -88,46 +89,46 @@ returns-clause-moves g c = λ told.
     let between = c.persist_entries.new.disk in
     let persist = c.in_ok-persist_entries.ensures in
     let apply = c.apply_at_rest.ensures in
-    let then : IsTrue (D.kind between).tells = subst (λ k. IsTrue k.tells) (sym persist.disk.same) told in
-    let l = g.G.LogStore.log engine.log in
-    let h = g.T.MetaStore.hard_state engine.meta in
+    let then : IsTrue (D.kind between).tells = subst (λ k. IsTrue k.tells) (sym persist.writes.goes_on.same) told in
+    let l = (g.G.LogStore.shown engine.log).value in
+    let h = (g.T.MetaStore.shown engine.meta).value in
     let s = g.M.StateMachine.map engine.state in
     let is = next_is h s engine.running _ _ c.args.moment c.args.command c.of.result c.of.ensures (ap (λ i. i.index) c.last_applied-index.ensures) c.current_term-term.ensures in
     let next = ap (λ e. e.index) is in
     let caught = c.requires.ready.caught_up in
-    let meta_rests = g.met.T.MetaStore.rests_own engine.meta _ _ (apart_own _ _ _ _ meta_log (persist.spares told)) (c.requires.rests told).meta in
+    let meta_rests = g.met.T.MetaStore.lies.rests_own engine.meta _ _ (apart_own _ _ _ _ meta_log ((persist.writes.moves told).spares)) (c.requires.rests told).meta in
     subst (λ e. OldOrNew (λ files. joined (g.G.LogStore.holds files) (g.T.MetaStore.holds files) (g.M.StateMachine.holds files)) (D.images c.apply_at_rest.new.disk) (D.moment disk) (D.moment c.apply_at_rest.new.disk) (durable_of h s) (applied (durable_of h s) e)) is
     (moves_then _ _ _ _ (D.moment between) _ _ _ (apply.disk.told then).past
     (log_moves g.G.LogStore.holds g.T.MetaStore.holds g.M.StateMachine.holds _ _ _ _ _ _ _ _ _
     (durable_is l h s caught) (logged_is l s c.of.result caught next h)
-    (persist.own told)
-    (spared _ _ _ _ _ _ _ _ meta_log g.met.T.MetaStore.holds_own
-    (gives_now _ (g.T.MetaStore.rests engine.meta) _ _ _ _ (λ files. g.met.D.Disk.images_now disk files told)
-    (λ files rest at. g.met.T.MetaStore.rests_hold engine.meta (D.content disk) files c.requires.ready.meta rest at) (c.requires.rests told).meta) (persist.others told))
+    (old_or_new (persist.writes.moves told))
+    (spared _ _ _ _ _ _ _ _ meta_log g.met.T.MetaStore.lies.holds_own
+    (gives_now _ (g.T.MetaStore.shown engine.meta).rests _ _ _ _ (λ files. g.met.D.Disk.images_now disk files told)
+    (λ files rest at. g.met.T.MetaStore.lies.rests_hold engine.meta (D.content disk) files c.requires.ready.meta rest at) (c.requires.rests told).meta) ((persist.writes.moves told).others))
     (spared _ _ _ _ _ _ _ _ state_log g.met.M.StateMachine.holds_own
     (gives_now _ (g.M.StateMachine.rests engine.state) _ _ _ _ (λ files. g.met.D.Disk.images_now disk files told)
-    (λ files rest at. g.met.M.StateMachine.rests_hold engine.state (D.content disk) files c.requires.ready.state rest at) (c.requires.rests told).state) (persist.others told)))
+    (λ files rest at. g.met.M.StateMachine.rests_hold engine.state (D.content disk) files c.requires.ready.state rest at) (c.requires.rests told).state) ((persist.writes.moves told).others)))
     (state_moves g.G.LogStore.holds g.T.MetaStore.holds g.M.StateMachine.holds _ _ _ _ _ _ _ _ _
     (logged_is l s c.of.result caught next h) (applied_again l h s c.of.result caught next)
-    (spared _ _ _ _ _ _ _ _ log_state g.met.G.LogStore.holds_own
-    (gives_now _ (g.G.LogStore.rests c.persist_entries.new.self) _ _ _ _ (λ files. g.met.D.Disk.images_now between files then)
-    (λ files rest at. g.met.G.LogStore.rests_hold c.persist_entries.new.self (D.content between) files persist.ready rest at ∙ ap (λ x. Some x) persist.persisted) (persist.rests told)) (apply.others then))
-    (spared _ _ _ _ _ _ _ _ meta_state g.met.T.MetaStore.holds_own
-    (gives_now _ (g.T.MetaStore.rests engine.meta) _ _ _ _ (λ files. g.met.D.Disk.images_now between files then)
-    (λ files rest at. g.met.T.MetaStore.rests_hold engine.meta (D.content between) files c.requires.ready.meta rest at) meta_rests) (apply.others then))
+    (spared _ _ _ _ _ _ _ _ log_state g.met.G.LogStore.lies.holds_own
+    (gives_now _ (g.G.LogStore.shown c.persist_entries.new.self).rests _ _ _ _ (λ files. g.met.D.Disk.images_now between files then)
+    (λ files rest at. g.met.G.LogStore.lies.rests_hold c.persist_entries.new.self (D.content between) files persist.writes.done.ready rest at ∙ ap (λ x. Some x) persist.writes.done.value) (persist.writes.done.rests told)) (apply.others then))
+    (spared _ _ _ _ _ _ _ _ meta_state g.met.T.MetaStore.lies.holds_own
+    (gives_now _ (g.T.MetaStore.shown engine.meta).rests _ _ _ _ (λ files. g.met.D.Disk.images_now between files then)
+    (λ files rest at. g.met.T.MetaStore.lies.rests_hold engine.meta (D.content between) files c.requires.ready.meta rest at) meta_rests) (apply.others then))
     (apply.own then)))
 
 pub returns-clause-ready : goal.returns-clause-ready
 returns-clause-ready g c =
     let engine = c.args.engine.now in
-    let l = g.G.LogStore.log engine.log in
+    let l = (g.G.LogStore.shown engine.log).value in
     let s = g.M.StateMachine.map engine.state in
-    let is = next_is (g.T.MetaStore.hard_state engine.meta) s engine.running _ _ c.args.moment c.args.command c.of.result c.of.ensures (ap (λ i. i.index) c.last_applied-index.ensures) c.current_term-term.ensures in
+    let is = next_is (g.T.MetaStore.shown engine.meta).value s engine.running _ _ c.args.moment c.args.command c.of.result c.of.ensures (ap (λ i. i.index) c.last_applied-index.ensures) c.current_term-term.ensures in
     record {
-      log = c.in_ok-persist_entries.ensures.ready;
+      log = c.in_ok-persist_entries.ensures.writes.done.ready;
       meta = c.requires.ready.meta;
       state = c.in_ok-results.ensures.ready;
-      caught_up = caught_up_now l s c.of.result _ _ c.requires.ready.caught_up (ap (λ e. e.index) is) c.in_ok-persist_entries.ensures.persisted c.in_ok-results.ensures.applied;
+      caught_up = caught_up_now l s c.of.result _ _ c.requires.ready.caught_up (ap (λ e. e.index) is) c.in_ok-persist_entries.ensures.writes.done.value c.in_ok-results.ensures.applied;
       plain = c.requires.ready.plain;
     }
 
@@ -135,46 +136,46 @@ pub returns-clause-rests : goal.returns-clause-rests
 returns-clause-rests g c = λ told.
     let persist = c.in_ok-persist_entries.ensures in
     let apply = c.in_ok-results.ensures in
-    let then : IsTrue (g.D.Disk.kind c.persist_entries.new.disk).tells = subst (λ k. IsTrue k.tells) (sym persist.disk.same) told in
+    let then : IsTrue (g.D.Disk.kind c.persist_entries.new.disk).tells = subst (λ k. IsTrue k.tells) (sym persist.writes.goes_on.same) told in
     let engine = c.args.engine.now in
     record {
-      log = g.met.G.LogStore.rests_own c.persist_entries.new.self _ _ (apart_own _ _ _ _ log_state (apply.spares then)) (persist.rests told);
-      meta = g.met.T.MetaStore.rests_own engine.meta _ _ (apart_own _ _ _ _ meta_state (apply.spares then))
-          (g.met.T.MetaStore.rests_own engine.meta _ _ (apart_own _ _ _ _ meta_log (persist.spares told)) (c.requires.rests told).meta);
+      log = g.met.G.LogStore.lies.rests_own c.persist_entries.new.self _ _ (apart_own _ _ _ _ log_state (apply.spares then)) (persist.writes.done.rests told);
+      meta = g.met.T.MetaStore.lies.rests_own engine.meta _ _ (apart_own _ _ _ _ meta_state (apply.spares then))
+          (g.met.T.MetaStore.lies.rests_own engine.meta _ _ (apart_own _ _ _ _ meta_log ((persist.writes.moves told).spares)) (c.requires.rests told).meta);
       state = apply.rests then;
     }
 
 -- the log is handed the entry, and then the map
 pub returns-in_err-persist_entries-clause-heavy : goal.returns-in_err-persist_entries-clause-heavy
 returns-in_err-persist_entries-clause-heavy g c = heavier_out c.from_residual.result c.in_err-persist_entries.field-0.0 _ _ _ _ c.from_residual.ensures.1 refl
-    (omega (arith, entry_is c.of.result _ _ _ c.args.command c.of.ensures)) c.in_err-persist_entries.ensures.heavy
+    (omega (arith, entry_is c.of.result _ _ _ c.args.command c.of.ensures)) c.in_err-persist_entries.ensures.writes.refused.heavy
 
 pub returns-in_err-results-clause-heavy : goal.returns-in_err-results-clause-heavy
 returns-in_err-results-clause-heavy g c = heavier_out c.from_residual-in_err-results.result c.in_err-results.field-0.0 _ _ _ _ c.from_residual-in_err-results.ensures.1
-    (ap (λ (k : Kind). k.limit) c.persist_entries.ensures.disk.same)
+    (ap (λ (k : Kind). k.limit) c.persist_entries.ensures.writes.goes_on.same)
     (omega (arith, entry_is c.of.result _ _ _ c.args.command c.of.ensures)) c.in_err-results.ensures.heavy
 
 pub returns-clause-weight : goal.returns-clause-weight
-returns-clause-weight g c = omega (arith, c.in_ok-persist_entries.ensures.weight, c.in_ok-results.ensures.weight, entry_is c.of.result _ _ _ c.args.command c.of.ensures)
+returns-clause-weight g c = omega (arith, c.in_ok-persist_entries.ensures.writes.done.weight, c.in_ok-results.ensures.weight, entry_is c.of.result _ _ _ c.args.command c.of.ensures)
 
 -- neither writes in the snapshot's files
 pub returns-in_err-persist_entries-clause-snapshot : goal.returns-in_err-persist_entries-clause-snapshot
-returns-in_err-persist_entries-clause-snapshot g c = λ told. spares_by _ _ _ _ _ _ _ snapshot_log (c.persist_entries.ensures.spares told) (c.persist_entries.ensures.others told)
+returns-in_err-persist_entries-clause-snapshot g c = λ told. spares_by _ _ _ _ _ _ _ snapshot_log ((c.persist_entries.ensures.writes.moves told).spares) ((c.persist_entries.ensures.writes.moves told).others)
 
 pub returns-in_err-results-clause-snapshot : goal.returns-in_err-results-clause-snapshot
-returns-in_err-results-clause-snapshot g c = spares_twice _ _ _ _ _ _ _ _ _ c.persist_entries.ensures.disk c.apply_at_rest.ensures.disk
-    (λ told. spares_by _ _ _ _ _ _ _ snapshot_log (c.persist_entries.ensures.spares told) (c.persist_entries.ensures.others told))
+returns-in_err-results-clause-snapshot g c = spares_twice _ _ _ _ _ _ _ _ _ c.persist_entries.ensures.writes.goes_on c.apply_at_rest.ensures.disk
+    (λ told. spares_by _ _ _ _ _ _ _ snapshot_log ((c.persist_entries.ensures.writes.moves told).spares) ((c.persist_entries.ensures.writes.moves told).others))
     (λ told. spares_by _ _ _ _ _ _ _ snapshot_state (c.apply_at_rest.ensures.spares told) (c.apply_at_rest.ensures.others told))
 
 pub returns-clause-snapshot : goal.returns-clause-snapshot
-returns-clause-snapshot g c = spares_twice _ _ _ _ _ _ _ _ _ c.persist_entries.ensures.disk c.apply_at_rest.ensures.disk
-    (λ told. spares_by _ _ _ _ _ _ _ snapshot_log (c.persist_entries.ensures.spares told) (c.persist_entries.ensures.others told))
+returns-clause-snapshot g c = spares_twice _ _ _ _ _ _ _ _ _ c.persist_entries.ensures.writes.goes_on c.apply_at_rest.ensures.disk
+    (λ told. spares_by _ _ _ _ _ _ _ snapshot_log ((c.persist_entries.ensures.writes.moves told).spares) ((c.persist_entries.ensures.writes.moves told).others))
     (λ told. spares_by _ _ _ _ _ _ _ snapshot_state (c.apply_at_rest.ensures.spares told) (c.apply_at_rest.ensures.others told))
 
 -- the entry that was made is in the log
 pub returns-clause-logged : goal.returns-clause-logged
 returns-clause-logged g c =
     let engine = c.args.engine.now in
-    let l = g.G.LogStore.log engine.log in
-    let is = next_is (g.T.MetaStore.hard_state engine.meta) (g.M.StateMachine.map engine.state) engine.running _ _ c.args.moment c.args.command c.of.result c.of.ensures (ap (λ i. i.index) c.last_applied-index.ensures) c.current_term-term.ensures in
-    c.in_ok-persist_entries.ensures.persisted ∙ ap (λ e. changed l (Append (e ∷ []))) is
+    let l = (g.G.LogStore.shown engine.log).value in
+    let is = next_is (g.T.MetaStore.shown engine.meta).value (g.M.StateMachine.map engine.state) engine.running _ _ c.args.moment c.args.command c.of.result c.of.ensures (ap (λ i. i.index) c.last_applied-index.ensures) c.current_term-term.ensures in
+    c.in_ok-persist_entries.ensures.writes.done.value ∙ ap (λ e. changed l (Append (e ∷ []))) is

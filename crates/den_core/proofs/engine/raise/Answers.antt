@@ -1,6 +1,7 @@
 use Rattle.std.proofs.Common.{◌+◌, Some, refl, ap, ◌∙◌, arith}
 use Rattle.std.proofs.lemmas.Result.{on_ok_weaker, IfErr-weaker}
 use Rattle.den_model.specs.MapState.{part_of}
+use Rattle.den_journal.proofs.Moving.{old_or_new}
 use Rattle.den_core.specs.Joined.{durable_is}
 use Rattle.den_core.proofs.Spared.{gives_now, spared, apart_own, meta_moves, log_meta, state_meta, snapshot_meta, spares_by}
 use Rattle.den_core.proofs.Weighing.{hard_state_length, heavier}
@@ -13,33 +14,33 @@ returns-clause-moves g c = λ told.
     let engine = c.args.engine.now in
     let disk = c.args.disk.now in
     let save = c.save_hard_state.ensures in
-    let is = durable_is _ (g.T.MetaStore.hard_state engine.meta) _ c.requires.ready.caught_up in
+    let is = durable_is _ (g.T.MetaStore.shown engine.meta).value _ c.requires.ready.caught_up in
     meta_moves g.G.LogStore.holds g.T.MetaStore.holds g.M.StateMachine.holds _ _ _ _ _ _ _ _ _ is
     (durable_is _ _ _ c.requires.ready.caught_up ∙ ap (λ n. Some (part_of (g.M.StateMachine.map engine.state) (n + 1))) c.current_term-term.ensures)
-    (spared _ _ _ _ _ _ _ _ log_meta g.met.G.LogStore.holds_own
-    (gives_now _ (g.G.LogStore.rests engine.log) _ _ _ _ (λ files. g.met.D.Disk.images_now disk files told)
-    (λ files rest at. g.met.G.LogStore.rests_hold engine.log (D.content disk) files c.requires.ready.log rest at) (c.requires.rests told).log) (save.others told))
-    (save.own told)
+    (spared _ _ _ _ _ _ _ _ log_meta g.met.G.LogStore.lies.holds_own
+    (gives_now _ (g.G.LogStore.shown engine.log).rests _ _ _ _ (λ files. g.met.D.Disk.images_now disk files told)
+    (λ files rest at. g.met.G.LogStore.lies.rests_hold engine.log (D.content disk) files c.requires.ready.log rest at) (c.requires.rests told).log) ((save.writes.moves told).others))
+    (old_or_new (save.writes.moves told))
     (spared _ _ _ _ _ _ _ _ state_meta g.met.M.StateMachine.holds_own
     (gives_now _ (g.M.StateMachine.rests engine.state) _ _ _ _ (λ files. g.met.D.Disk.images_now disk files told)
-    (λ files rest at. g.met.M.StateMachine.rests_hold engine.state (D.content disk) files c.requires.ready.state rest at) (c.requires.rests told).state) (save.others told))
+    (λ files rest at. g.met.M.StateMachine.rests_hold engine.state (D.content disk) files c.requires.ready.state rest at) (c.requires.rests told).state) ((save.writes.moves told).others))
 
 pub returns-clause-rests : goal.returns-clause-rests
-returns-clause-rests g c = on_ok_weaker c.save_hard_state.result (λ rests told.
+returns-clause-rests g c = on_ok_weaker c.save_hard_state.result (λ done told.
     let engine = c.args.engine.now in
     let save = c.save_hard_state.ensures in
     record {
-      log = g.met.G.LogStore.rests_own engine.log _ _ (apart_own _ _ _ _ log_meta (save.spares told)) (c.requires.rests told).log;
-      meta = rests told;
-      state = g.met.M.StateMachine.rests_own engine.state _ _ (apart_own _ _ _ _ state_meta (save.spares told)) (c.requires.rests told).state;
-    }) c.save_hard_state.ensures.rests
+      log = g.met.G.LogStore.lies.rests_own engine.log _ _ (apart_own _ _ _ _ log_meta ((save.writes.moves told).spares)) (c.requires.rests told).log;
+      meta = done.rests told;
+      state = g.met.M.StateMachine.rests_own engine.state _ _ (apart_own _ _ _ _ state_meta ((save.writes.moves told).spares)) (c.requires.rests told).state;
+    }) c.save_hard_state.ensures.writes.done
 
 -- it is handed the new hard state
 pub returns-clause-weight : goal.returns-clause-weight
-returns-clause-weight g c = on_ok_weaker c.save_hard_state.result (λ weight. omega (arith, weight, hard_state_length (record { current_term = c.current_term-term.result + 1; voted_for = c.vote.result }))) c.save_hard_state.ensures.weight
+returns-clause-weight g c = on_ok_weaker c.save_hard_state.result (λ done. omega (arith, done.weight, hard_state_length (record { current_term = c.current_term-term.result + 1; voted_for = c.vote.result }))) c.save_hard_state.ensures.writes.done
 
 pub returns-clause-heavy : goal.returns-clause-heavy
-returns-clause-heavy g c = IfErr-weaker c.save_hard_state.result _ _ (λ e heavy. heavier _ _ _ _ e refl (omega (arith, hard_state_length (record { current_term = c.current_term-term.result + 1; voted_for = c.vote.result }))) heavy) c.save_hard_state.ensures.heavy
+returns-clause-heavy g c = IfErr-weaker c.save_hard_state.result _ _ (λ e refused. heavier _ _ _ _ e refl (omega (arith, hard_state_length (record { current_term = c.current_term-term.result + 1; voted_for = c.vote.result }))) refused.heavy) c.save_hard_state.ensures.writes.refused
 
 pub returns-clause-snapshot : goal.returns-clause-snapshot
-returns-clause-snapshot g c = λ told. spares_by _ _ _ _ _ _ _ snapshot_meta (c.save_hard_state.ensures.spares told) (c.save_hard_state.ensures.others told)
+returns-clause-snapshot g c = λ told. spares_by _ _ _ _ _ _ _ snapshot_meta ((c.save_hard_state.ensures.writes.moves told).spares) ((c.save_hard_state.ensures.writes.moves told).others)

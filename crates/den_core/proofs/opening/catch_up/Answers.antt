@@ -6,7 +6,7 @@ use Rattle.den_core.proofs.Spared.{gives_now, same_gives, spared, state_moves, a
 use Rattle.den_core.proofs.opening.catch_up.Goals as goal
 
 pub apply_all-requires-clause-in_order : goal.apply_all-requires-clause-in_order
-apply_all-requires-clause-in_order g c = left_in_order (g.G.LogStore.log c.args.log) (g.M.StateMachine.map c.args.state) _ c.requires.left
+apply_all-requires-clause-in_order g c = left_in_order (g.G.LogStore.shown c.args.log).value (g.M.StateMachine.map c.args.state) _ c.requires.left
 
 -- the map moved, or did not
 pub returns-in_err-apply_all-clause-survives : goal.returns-in_err-apply_all-clause-survives
@@ -14,18 +14,18 @@ returns-in_err-apply_all-clause-survives g c = λ kept told is.
     let D = g.D.Disk in
     let disk = c.args.disk.now in
     let rests = c.requires.rests told in
-    let l = g.G.LogStore.log c.args.log in
-    let h = g.T.MetaStore.hard_state c.args.meta in
+    let l = (g.G.LogStore.shown c.args.log).value in
+    let h = (g.T.MetaStore.shown c.args.meta).value in
     let s = g.M.StateMachine.map c.args.state in
     let left = c.requires.left in
     stays _ _ _ _ _ (same_gives _ _ _ _ _ (state_moves g.G.LogStore.holds g.T.MetaStore.holds g.M.StateMachine.holds _ _ _ _ _ _ _ _ _
     is (left_again l s _ left h ∙ sym (left_is l s _ left h) ∙ is)
-    (spared _ _ _ _ _ _ _ _ log_state g.met.G.LogStore.holds_own
-    (gives_now _ (g.G.LogStore.rests c.args.log) _ _ _ _ (λ files. g.met.D.Disk.images_now disk files told)
-    (λ files rest at. g.met.G.LogStore.rests_hold c.args.log (D.content disk) files c.requires.log_ready rest at) rests.log) (c.apply_all.ensures.others told))
-    (spared _ _ _ _ _ _ _ _ meta_state g.met.T.MetaStore.holds_own
-    (gives_now _ (g.T.MetaStore.rests c.args.meta) _ _ _ _ (λ files. g.met.D.Disk.images_now disk files told)
-    (λ files rest at. g.met.T.MetaStore.rests_hold c.args.meta (D.content disk) files c.requires.meta_ready rest at) rests.meta) (c.apply_all.ensures.others told))
+    (spared _ _ _ _ _ _ _ _ log_state g.met.G.LogStore.lies.holds_own
+    (gives_now _ (g.G.LogStore.shown c.args.log).rests _ _ _ _ (λ files. g.met.D.Disk.images_now disk files told)
+    (λ files rest at. g.met.G.LogStore.lies.rests_hold c.args.log (D.content disk) files c.requires.log_ready rest at) rests.log) (c.apply_all.ensures.others told))
+    (spared _ _ _ _ _ _ _ _ meta_state g.met.T.MetaStore.lies.holds_own
+    (gives_now _ (g.T.MetaStore.shown c.args.meta).rests _ _ _ _ (λ files. g.met.D.Disk.images_now disk files told)
+    (λ files rest at. g.met.T.MetaStore.lies.rests_hold c.args.meta (D.content disk) files c.requires.meta_ready rest at) rests.meta) (c.apply_all.ensures.others told))
     (c.apply_all.ensures.own told)))
 
 pub returns-clause-survives : goal.returns-clause-survives
@@ -33,33 +33,33 @@ returns-clause-survives g c = λ kept told is.
     let D = g.D.Disk in
     let disk = c.args.disk.now in
     let rests = c.requires.rests told in
-    let l = g.G.LogStore.log c.args.log in
-    let h = g.T.MetaStore.hard_state c.args.meta in
+    let l = (g.G.LogStore.shown c.args.log).value in
+    let h = (g.T.MetaStore.shown c.args.meta).value in
     let s = g.M.StateMachine.map c.args.state in
     let left = c.requires.left in
     stays _ _ _ _ _ (same_gives _ _ _ _ _ (state_moves g.G.LogStore.holds g.T.MetaStore.holds g.M.StateMachine.holds _ _ _ _ _ _ _ _ _
     is (left_again l s _ left h ∙ sym (left_is l s _ left h) ∙ is)
-    (spared _ _ _ _ _ _ _ _ log_state g.met.G.LogStore.holds_own
-    (gives_now _ (g.G.LogStore.rests c.args.log) _ _ _ _ (λ files. g.met.D.Disk.images_now disk files told)
-    (λ files rest at. g.met.G.LogStore.rests_hold c.args.log (D.content disk) files c.requires.log_ready rest at) rests.log) (c.apply_all.ensures.others told))
-    (spared _ _ _ _ _ _ _ _ meta_state g.met.T.MetaStore.holds_own
-    (gives_now _ (g.T.MetaStore.rests c.args.meta) _ _ _ _ (λ files. g.met.D.Disk.images_now disk files told)
-    (λ files rest at. g.met.T.MetaStore.rests_hold c.args.meta (D.content disk) files c.requires.meta_ready rest at) rests.meta) (c.apply_all.ensures.others told))
+    (spared _ _ _ _ _ _ _ _ log_state g.met.G.LogStore.lies.holds_own
+    (gives_now _ (g.G.LogStore.shown c.args.log).rests _ _ _ _ (λ files. g.met.D.Disk.images_now disk files told)
+    (λ files rest at. g.met.G.LogStore.lies.rests_hold c.args.log (D.content disk) files c.requires.log_ready rest at) rests.log) (c.apply_all.ensures.others told))
+    (spared _ _ _ _ _ _ _ _ meta_state g.met.T.MetaStore.lies.holds_own
+    (gives_now _ (g.T.MetaStore.shown c.args.meta).rests _ _ _ _ (λ files. g.met.D.Disk.images_now disk files told)
+    (λ files rest at. g.met.T.MetaStore.lies.rests_hold c.args.meta (D.content disk) files c.requires.meta_ready rest at) rests.meta) (c.apply_all.ensures.others told))
     (c.apply_all.ensures.own told)))
 
 pub new-requires-clause-caught_up : goal.new-requires-clause-caught_up
-new-requires-clause-caught_up g c = subst (λ s. IsCaughtUp (g.G.LogStore.log c.args.log) s) (sym c.in_ok-apply_all.ensures.applied)
-    (left_caught_up (g.G.LogStore.log c.args.log) (g.M.StateMachine.map c.args.state) _ c.requires.left)
+new-requires-clause-caught_up g c = subst (λ s. IsCaughtUp (g.G.LogStore.shown c.args.log).value s) (sym c.in_ok-apply_all.ensures.applied)
+    (left_caught_up (g.G.LogStore.shown c.args.log).value (g.M.StateMachine.map c.args.state) _ c.requires.left)
 
 pub returns-clause-opened : goal.returns-clause-opened
-returns-clause-opened g c = left_applied (g.G.LogStore.log c.args.log) (g.M.StateMachine.map c.args.state) _ c.requires.left (g.T.MetaStore.hard_state c.args.meta)
-    ∙ ap (λ s. Some (durable_of (g.T.MetaStore.hard_state c.args.meta) s)) (sym c.in_ok-apply_all.ensures.applied)
+returns-clause-opened g c = left_applied (g.G.LogStore.shown c.args.log).value (g.M.StateMachine.map c.args.state) _ c.requires.left (g.T.MetaStore.shown c.args.meta).value
+    ∙ ap (λ s. Some (durable_of (g.T.MetaStore.shown c.args.meta).value s)) (sym c.in_ok-apply_all.ensures.applied)
     ∙ ap (λ k. Some k.durable) (sym c.new.ensures.kv)
 
 pub returns-clause-rests : goal.returns-clause-rests
 returns-clause-rests g c = λ told. c.new.ensures.rests (g.D.Disk.content c.apply_all.new.disk) (record {
-  log = g.met.G.LogStore.rests_own c.args.log _ _ (apart_own _ _ _ _ log_state (c.in_ok-apply_all.ensures.spares told)) (c.requires.rests told).log;
-  meta = g.met.T.MetaStore.rests_own c.args.meta _ _ (apart_own _ _ _ _ meta_state (c.in_ok-apply_all.ensures.spares told)) (c.requires.rests told).meta;
+  log = g.met.G.LogStore.lies.rests_own c.args.log _ _ (apart_own _ _ _ _ log_state (c.in_ok-apply_all.ensures.spares told)) (c.requires.rests told).log;
+  meta = g.met.T.MetaStore.lies.rests_own c.args.meta _ _ (apart_own _ _ _ _ meta_state (c.in_ok-apply_all.ensures.spares told)) (c.requires.rests told).meta;
   state = c.in_ok-apply_all.ensures.rests told;
 })
 

@@ -5,10 +5,10 @@ use Rattle.den_core.proofs.opening.entries_above.Goals as goal
 
 pub returns-in-Some-clause-entries : goal.returns-in-Some-clause-entries
 returns-in-Some-clause-entries g c = IfOk-weaker c.get_entries.result _ _
-    (λ entries is. is ∙ entries_some (g.G.LogStore.log c.args.log.now) _ _ _ c.in-Some.ensures.1 c.last_index-last.ensures (g.met.G.LogStore.in_order c.args.log.now))
+    (λ entries is. is ∙ entries_some (g.G.LogStore.shown c.args.log.now).value _ _ _ c.in-Some.ensures.1 c.last_index-last.ensures (g.met.G.LogStore.in_order c.args.log.now))
     c.get_entries.ensures.entries
 
 pub returns-in-None-clause-entries : goal.returns-in-None-clause-entries
 returns-in-None-clause-entries g c = IfOk-weaker c.get_entries-in-None.result _ _
-    (λ entries is. is ∙ entries_none (g.G.LogStore.log c.args.log.now) c.args.index c.last_index-last.result (omega (arith, c.in-None.ensures, c.last_index-last.type_inv)) c.last_index-last.ensures (g.met.G.LogStore.in_order c.args.log.now))
+    (λ entries is. is ∙ entries_none (g.G.LogStore.shown c.args.log.now).value c.args.index c.last_index-last.result (omega (arith, c.in-None.ensures, c.last_index-last.type_inv)) c.last_index-last.ensures (g.met.G.LogStore.in_order c.args.log.now))
     c.get_entries-in-None.ensures.entries

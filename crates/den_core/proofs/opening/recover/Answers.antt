@@ -12,10 +12,10 @@ returns-in_err-found-clause-survives g c = λ kept told is.
     let disk = c.args.disk.now in
     let rests = c.requires.rests told in
     stays _ _ _ _ _ (all_give g.G.LogStore.holds g.T.MetaStore.holds g.M.StateMachine.holds _ _ _ _ _ _ _ is
-    (gives_now _ (g.G.LogStore.rests c.args.log) _ _ _ _ (λ files. g.met.D.Disk.images_now disk files told)
-    (λ files rest at. g.met.G.LogStore.rests_hold c.args.log (D.content disk) files c.requires.log_ready rest at) rests.log)
-    (gives_now _ (g.T.MetaStore.rests c.args.meta) _ _ _ _ (λ files. g.met.D.Disk.images_now disk files told)
-    (λ files rest at. g.met.T.MetaStore.rests_hold c.args.meta (D.content disk) files c.requires.meta_ready rest at) rests.meta)
+    (gives_now _ (g.G.LogStore.shown c.args.log).rests _ _ _ _ (λ files. g.met.D.Disk.images_now disk files told)
+    (λ files rest at. g.met.G.LogStore.lies.rests_hold c.args.log (D.content disk) files c.requires.log_ready rest at) rests.log)
+    (gives_now _ (g.T.MetaStore.shown c.args.meta).rests _ _ _ _ (λ files. g.met.D.Disk.images_now disk files told)
+    (λ files rest at. g.met.T.MetaStore.lies.rests_hold c.args.meta (D.content disk) files c.requires.meta_ready rest at) rests.meta)
     (gives_now _ (g.M.StateMachine.rests c.args.state) _ _ _ _ (λ files. g.met.D.Disk.images_now disk files told)
     (λ files rest at. g.met.M.StateMachine.rests_hold c.args.state (D.content disk) files c.requires.state_ready rest at) rests.state))
 
@@ -25,51 +25,51 @@ returns-in-Some-clause-survives g c = λ kept told is.
     let disk = c.args.disk.now in
     let rests = c.requires.rests told in
     stays _ _ _ _ _ (all_give g.G.LogStore.holds g.T.MetaStore.holds g.M.StateMachine.holds _ _ _ _ _ _ _ is
-    (gives_now _ (g.G.LogStore.rests c.args.log) _ _ _ _ (λ files. g.met.D.Disk.images_now disk files told)
-    (λ files rest at. g.met.G.LogStore.rests_hold c.args.log (D.content disk) files c.requires.log_ready rest at) rests.log)
-    (gives_now _ (g.T.MetaStore.rests c.args.meta) _ _ _ _ (λ files. g.met.D.Disk.images_now disk files told)
-    (λ files rest at. g.met.T.MetaStore.rests_hold c.args.meta (D.content disk) files c.requires.meta_ready rest at) rests.meta)
+    (gives_now _ (g.G.LogStore.shown c.args.log).rests _ _ _ _ (λ files. g.met.D.Disk.images_now disk files told)
+    (λ files rest at. g.met.G.LogStore.lies.rests_hold c.args.log (D.content disk) files c.requires.log_ready rest at) rests.log)
+    (gives_now _ (g.T.MetaStore.shown c.args.meta).rests _ _ _ _ (λ files. g.met.D.Disk.images_now disk files told)
+    (λ files rest at. g.met.T.MetaStore.lies.rests_hold c.args.meta (D.content disk) files c.requires.meta_ready rest at) rests.meta)
     (gives_now _ (g.M.StateMachine.rests c.args.state) _ _ _ _ (λ files. g.met.D.Disk.images_now disk files told)
     (λ files rest at. g.met.M.StateMachine.rests_hold c.args.state (D.content disk) files c.requires.state_ready rest at) rests.state))
 
 pub returns-in-Some-clause-refused : goal.returns-in-Some-clause-refused
-returns-in-Some-clause-refused g c = inl (refused_here _ (g.G.LogStore.log c.args.log) (g.T.MetaStore.hard_state c.args.meta) (g.M.StateMachine.map c.args.state) _ _ _ _
+returns-in-Some-clause-refused g c = inl (refused_here _ (g.G.LogStore.shown c.args.log).value (g.T.MetaStore.shown c.args.meta).value (g.M.StateMachine.map c.args.state) _ _ _ _
     (ap (λ i. i.index) c.last_applied-mark.ensures) (c.as_slice-entries.ensures ∙ c.in_ok-found.ensures.entries) c.needs_lease-lease.ensures c.refusal.ensures.refusal ∙ c.in-Some.is)
 
 pub catch_up-requires-clause-left : goal.catch_up-requires-clause-left
-catch_up-requires-clause-left g c = left_here _ (g.G.LogStore.log c.args.log) (g.T.MetaStore.hard_state c.args.meta) (g.M.StateMachine.map c.args.state) _ _ _ _
+catch_up-requires-clause-left g c = left_here _ (g.G.LogStore.shown c.args.log).value (g.T.MetaStore.shown c.args.meta).value (g.M.StateMachine.map c.args.state) _ _ _ _
     (ap (λ i. i.index) c.last_applied-mark.ensures) (c.as_slice-entries.ensures ∙ c.in_ok-found.ensures.entries) c.needs_lease-lease.ensures c.refusal.ensures.refusal c.in-None.is
 
 pub catch_up-requires-clause-no_ttl : goal.catch_up-requires-clause-no_ttl
-catch_up-requires-clause-no_ttl g c = free_here _ (g.G.LogStore.log c.args.log) (g.T.MetaStore.hard_state c.args.meta) (g.M.StateMachine.map c.args.state) _ _ _ _
+catch_up-requires-clause-no_ttl g c = free_here _ (g.G.LogStore.shown c.args.log).value (g.T.MetaStore.shown c.args.meta).value (g.M.StateMachine.map c.args.state) _ _ _ _
     (ap (λ i. i.index) c.last_applied-mark.ensures) (c.as_slice-entries.ensures ∙ c.in_ok-found.ensures.entries) c.needs_lease-lease.ensures c.refusal.ensures.refusal c.in-None.is
 
 pub returns-in-None-clause-unrefused : goal.returns-in-None-clause-unrefused
 returns-in-None-clause-unrefused g c =
-    let none = refused_here _ (g.G.LogStore.log c.args.log) (g.T.MetaStore.hard_state c.args.meta) (g.M.StateMachine.map c.args.state) _ _ _ _
+    let none = refused_here _ (g.G.LogStore.shown c.args.log).value (g.T.MetaStore.shown c.args.meta).value (g.M.StateMachine.map c.args.state) _ _ _ _
     (ap (λ i. i.index) c.last_applied-mark.ensures) (c.as_slice-entries.ensures ∙ c.in_ok-found.ensures.entries) c.needs_lease-lease.ensures c.refusal.ensures.refusal ∙ c.in-None.is in
     on_ok_just c.catch_up.result none
 
 pub returns-in-None-clause-refused : goal.returns-in-None-clause-refused
 returns-in-None-clause-refused g c =
-    let none = refused_here _ (g.G.LogStore.log c.args.log) (g.T.MetaStore.hard_state c.args.meta) (g.M.StateMachine.map c.args.state) _ _ _ _
+    let none = refused_here _ (g.G.LogStore.shown c.args.log).value (g.T.MetaStore.shown c.args.meta).value (g.M.StateMachine.map c.args.state) _ _ _ _
     (ap (λ i. i.index) c.last_applied-mark.ensures) (c.as_slice-entries.ensures ∙ c.in_ok-found.ensures.entries) c.needs_lease-lease.ensures c.refusal.ensures.refusal ∙ c.in-None.is in
     refused_later c.catch_up.result _ _ _ none c.catch_up.ensures.refused
 
 pub returns-in-None-clause-untouched : goal.returns-in-None-clause-untouched
 returns-in-None-clause-untouched g c = λ some.
-    let none = refused_here _ (g.G.LogStore.log c.args.log) (g.T.MetaStore.hard_state c.args.meta) (g.M.StateMachine.map c.args.state) _ _ _ _
+    let none = refused_here _ (g.G.LogStore.shown c.args.log).value (g.T.MetaStore.shown c.args.meta).value (g.M.StateMachine.map c.args.state) _ _ _ _
     (ap (λ i. i.index) c.last_applied-mark.ensures) (c.as_slice-entries.ensures ∙ c.in_ok-found.ensures.entries) c.needs_lease-lease.ensures c.refusal.ensures.refusal ∙ c.in-None.is in
     absurd (none_some _ none some)
 
 pub returns-in-None-clause-term : goal.returns-in-None-clause-term
-returns-in-None-clause-term g c = IfOk-weaker c.catch_up.result _ _ (λ engine is. (room_here (g.G.LogStore.log c.args.log) (g.T.MetaStore.hard_state c.args.meta) (g.M.StateMachine.map c.args.state) _ _ _
-    (ap (λ i. i.index) c.last_applied-mark.ensures) (left_here _ (g.G.LogStore.log c.args.log) (g.T.MetaStore.hard_state c.args.meta) (g.M.StateMachine.map c.args.state) _ _ _ _
+returns-in-None-clause-term g c = IfOk-weaker c.catch_up.result _ _ (λ engine is. (room_here (g.G.LogStore.shown c.args.log).value (g.T.MetaStore.shown c.args.meta).value (g.M.StateMachine.map c.args.state) _ _ _
+    (ap (λ i. i.index) c.last_applied-mark.ensures) (left_here _ (g.G.LogStore.shown c.args.log).value (g.T.MetaStore.shown c.args.meta).value (g.M.StateMachine.map c.args.state) _ _ _ _
     (ap (λ i. i.index) c.last_applied-mark.ensures) (c.as_slice-entries.ensures ∙ c.in_ok-found.ensures.entries) c.needs_lease-lease.ensures c.refusal.ensures.refusal c.in-None.is) c.in-None.ensures.room is).0) c.catch_up.ensures.opened
 
 pub returns-in-None-clause-index : goal.returns-in-None-clause-index
-returns-in-None-clause-index g c = IfOk-weaker c.catch_up.result _ _ (λ engine is. (room_here (g.G.LogStore.log c.args.log) (g.T.MetaStore.hard_state c.args.meta) (g.M.StateMachine.map c.args.state) _ _ _
-    (ap (λ i. i.index) c.last_applied-mark.ensures) (left_here _ (g.G.LogStore.log c.args.log) (g.T.MetaStore.hard_state c.args.meta) (g.M.StateMachine.map c.args.state) _ _ _ _
+returns-in-None-clause-index g c = IfOk-weaker c.catch_up.result _ _ (λ engine is. (room_here (g.G.LogStore.shown c.args.log).value (g.T.MetaStore.shown c.args.meta).value (g.M.StateMachine.map c.args.state) _ _ _
+    (ap (λ i. i.index) c.last_applied-mark.ensures) (left_here _ (g.G.LogStore.shown c.args.log).value (g.T.MetaStore.shown c.args.meta).value (g.M.StateMachine.map c.args.state) _ _ _ _
     (ap (λ i. i.index) c.last_applied-mark.ensures) (c.as_slice-entries.ensures ∙ c.in_ok-found.ensures.entries) c.needs_lease-lease.ensures c.refusal.ensures.refusal c.in-None.is) c.in-None.ensures.room is).1) c.catch_up.ensures.opened
 
 pub returns-in_err-found-clause-snapshot : goal.returns-in_err-found-clause-snapshot

@@ -7,24 +7,24 @@ use Rattle.den_core.proofs.engine.EngineStepper.open_at.Goals as goal
 pub returns-in_err-raise-clause-survives : goal.returns-in_err-raise-clause-survives
 returns-in_err-raise-clause-survives g c = λ told.
     let self = c.args.self.now in
-    opening_begun _ _ _ _ (kv_of (g.T.MetaStore.hard_state self.meta) (g.M.StateMachine.map self.state) self.running) c.args.moment c.requires.ready.plain.no_lease (c.raise.ensures.moves told)
+    opening_begun _ _ _ _ (kv_of (g.T.MetaStore.shown self.meta).value (g.M.StateMachine.map self.state) self.running) c.args.moment c.requires.ready.plain.no_lease (c.raise.ensures.moves told)
 
 pub returns-in_err-commit-clause-survives : goal.returns-in_err-commit-clause-survives
 returns-in_err-commit-clause-survives g c = λ told.
     let then : IsTrue (g.D.Disk.kind c.raise.new.disk).tells = subst (λ k. IsTrue k.tells) (sym c.raise.ensures.disk.same) told in
     let self = c.args.self.now in
-    let kv = kv_of (g.T.MetaStore.hard_state self.meta) (g.M.StateMachine.map self.state) self.running in
+    let kv = kv_of (g.T.MetaStore.shown self.meta).value (g.M.StateMachine.map self.state) self.running in
     opening_made _ _ _ _ _ _ kv _ c.args.moment c.requires.ready.plain.no_lease
-    (raised_is (g.T.MetaStore.hard_state self.meta) _ _ _ _ _ c.in_ok-raise.ensures.raised c.raise.ensures.map c.raise.ensures.running)
+    (raised_is (g.T.MetaStore.shown self.meta).value _ _ _ _ _ c.in_ok-raise.ensures.raised c.raise.ensures.map c.raise.ensures.running)
     (c.commit.ensures.disk.told then).past (c.raise.ensures.moves told) (c.commit.ensures.moves then)
 
 pub returns-clause-survives : goal.returns-clause-survives
 returns-clause-survives g c = λ told.
     let then : IsTrue (g.D.Disk.kind c.raise.new.disk).tells = subst (λ k. IsTrue k.tells) (sym c.raise.ensures.disk.same) told in
     let self = c.args.self.now in
-    let kv = kv_of (g.T.MetaStore.hard_state self.meta) (g.M.StateMachine.map self.state) self.running in
+    let kv = kv_of (g.T.MetaStore.shown self.meta).value (g.M.StateMachine.map self.state) self.running in
     opening_made _ _ _ _ _ _ kv _ c.args.moment c.requires.ready.plain.no_lease
-    (raised_is (g.T.MetaStore.hard_state self.meta) _ _ _ _ _ c.in_ok-raise.ensures.raised c.raise.ensures.map c.raise.ensures.running)
+    (raised_is (g.T.MetaStore.shown self.meta).value _ _ _ _ _ c.in_ok-raise.ensures.raised c.raise.ensures.map c.raise.ensures.running)
     (c.commit.ensures.disk.told then).past (c.raise.ensures.moves told) (c.commit.ensures.moves then)
 
 pub returns-in_err-commit-clause-snapshot : goal.returns-in_err-commit-clause-snapshot
