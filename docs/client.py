@@ -1,0 +1,77 @@
+#!/usr/bin/env python3
+"""A small client: starts the server on a folder and asks it one request after the other.
+
+    client.py PROGRAM FOLDER [put KEY VALUE | get KEY | delete KEY] ..
+
+It reads each reply before it sends the next request, so that no pipe fills. docs/FORMATS.md has the bytes.
+"""
+import subprocess
+import sys
+
+
+def number(n):
+    return n.to_bytes(8, "big")
+
+
+def blob(data):
+    return number(len(data)) + data
+
+
+def put(key, value):
+    return b"\x01\0\0\0\x01\x01" + blob(key) + blob(value) + number(0)
+
+
+def get(key):
+    return b"\x02\0\0\0\x01\0" + number(1) + blob(key)
+
+
+def delete(key):
+    return b"\x01\0\0\0\x01\x02" + blob(key)
+
+
+def reply_to(server, body):
+    """The body of the reply; none where the server ended before it was sent."""
+    try:
+        server.stdin.write(blob(body))
+        server.stdin.flush()
+    except BrokenPipeError:
+        return None
+    length = server.stdout.read(8)
+    size = int.from_bytes(length, "big")
+    reply = server.stdout.read(size)
+    return reply if len(length) == 8 and len(reply) == size else None
+
+
+def told(reply):
+    if reply is None:
+        return "no reply: the server ended; the request may have been carried out or not"
+    if reply == bytes.fromhex("01000000" "01" "01"):
+        return "done"
+    if reply == bytes.fromhex("01000000" "02") + number(0):
+        return "not held"
+    if reply.startswith(bytes.fromhex("01000000" "02") + number(1)):
+        key_size = int.from_bytes(reply[13:21], "big")
+        return "value " + repr(reply[21 + key_size + 8 :])
+    if reply == bytes.fromhex("06ff"):
+        return "refused: this version does not carry it out"
+    return "refused with " + reply.hex()
+
+
+def main():
+    program, folder, *words = sys.argv[1:]
+    kinds = {"put": (put, 2), "get": (get, 1), "delete": (delete, 1)}
+    server = subprocess.Popen([program, folder], stdin=subprocess.PIPE, stdout=subprocess.PIPE)
+    while words:
+        make, count = kinds[words[0]]
+        given, words = words[: 1 + count], words[1 + count :]
+        body = make(*(word.encode() for word in given[1:]))
+        print(*given, "->", told(reply_to(server, body)))
+    try:
+        server.stdin.close()
+    except BrokenPipeError:
+        pass
+    sys.exit(server.wait())
+
+
+if __name__ == "__main__":
+    main()
