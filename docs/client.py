@@ -58,6 +58,8 @@ def told(reply):
 
 
 def main():
+    if len(sys.argv) < 3:
+        sys.exit(__doc__)
     program, folder, *words = sys.argv[1:]
     kinds = {"put": (put, 2), "get": (get, 1), "delete": (delete, 1)}
     server = subprocess.Popen([program, folder], stdin=subprocess.PIPE, stdout=subprocess.PIPE)
