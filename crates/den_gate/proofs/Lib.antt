@@ -7,3 +7,4 @@ pub mod Families
 pub mod Settling
 pub mod Refusals
 pub mod Seen
+pub mod NextRegion

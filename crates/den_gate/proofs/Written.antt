@@ -25,10 +25,10 @@ unfolding u64_word
 word-is n bytes e = e
 
 -- an open region in front of regions
-regions_size : (p : List ℕ) (ps : List (List ℕ)) → length (open_regions (p ∷ ps)) ≡ 9 + length p + length (open_regions ps)
+pub regions_size : (p : List ℕ) (ps : List (List ℕ)) → length (open_regions (p ∷ ps)) ≡ 9 + length p + length (open_regions ps)
 regions_size p ps = omega (arith, length-append (open_region p) (open_regions ps), length-append (u64_word (length p)) p, length-word (length p))
 
-all_small : (ps : List (List ℕ)) → length (open_regions ps) < 2 ^ 64 → AllByRecursion (λ p. length p < 2 ^ 64) ps
+pub all_small : (ps : List (List ℕ)) → length (open_regions ps) < 2 ^ 64 → AllByRecursion (λ p. length p < 2 ^ 64) ps
 all_small [] small = tt
 all_small (p ∷ ps) small = let size = regions_size p ps in (omega (arith, size), all_small ps (omega (arith, size)))
 
@@ -42,7 +42,7 @@ with_regions_ok : (rs : List Region) → with_regions rs (Ok []) ≡ Ok rs
 with_regions_ok [] = refl
 with_regions_ok (r ∷ rs) = ap (with_region r) (with_regions_ok rs)
 
-with_regions_err : (rs : List Region) (at : ℕ) → with_regions rs (Err at) ≡ Err at
+pub with_regions_err : (rs : List Region) (at : ℕ) → with_regions rs (Err at) ≡ Err at
 with_regions_err [] at = refl
 with_regions_err (r ∷ rs) at = ap (with_region r) (with_regions_err rs at)
 

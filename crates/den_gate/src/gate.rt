@@ -4,6 +4,7 @@ ghost use Rattle.std.specs.Prelude.{◌≤◌, ◌^◌};
 use crate::GateError;
 use crate::add::add;
 use crate::find::{find_end, find_slot};
+use crate::reader::RegionReader;
 use crate::room::make_room;
 use crate::take::take_all;
 use den_disk::{Disk, Family, Part, Place};
@@ -32,6 +33,8 @@ impl GateFile {
     ghost use Rattle.den_gate.specs.Steps.{Keeps, KeepsOrAdds, Spares};
     ghost use Rattle.den_gate.specs.Gate.{payloads, IsAtRest, IsCurrent, KeepsFamily, KeepsOrAddsFamily};
     ghost use Rattle.den_gate.specs.Loading.{IsDurable};
+    ghost use Rattle.den_gate.specs.Reader.{StandsIn};
+    ghost use Rattle.den_gate.specs.Reads.{OnlyReads};
 
     /// Finds where a family's list ends, with all files on the disk. It takes no memory and writes nothing.
     pub fn load<D: Disk>(family: Family, disk: &mut D) -> Result<GateFile, GateError>
@@ -69,6 +72,21 @@ impl GateFile {
         ensures refused { IfErr result (Because (Unit {0}) (Rose (D.faults disk.old) (D.faults disk.new)) (λ needed limit. ⊥) (λ part offset. IsTrue (D.kind disk.old).tells → ⊥)) }
     {
         take_all(alloc, disk, self.slot)
+    }
+
+    /// A reader of the payloads, from the first one on. It takes no memory.
+    pub fn reader<D: Disk>(&self, disk: &mut D) -> Result<RegionReader, GateError>
+        requires at_rest { IsTrue (D.kind disk.old).tells → IsAtRest self.now (D.content disk.old) }
+        ensures disk { OnlyReads D.Disk disk.old disk.new }
+        ensures slot { IfOk result (λ reader. reader.slot ≡ self.now.slot) }
+        ensures first { IfOk result (λ reader. (reader.at ≡ 0) × (reader.given ≡ 0)) }
+        ensures stands { IsTrue (D.kind disk.old).tells → IfOk result (λ reader. StandsIn reader (D.content disk.new).reading) }
+        ensures refused { IfErr result (Because ⊥ (Rose (D.faults disk.old) (D.faults disk.new)) (λ needed limit. ⊥) (λ part offset. ⊥)) }
+    {
+        let limit = disk.limit();
+        let len = disk.len(self.slot)?;
+        prove!(len <= limit);
+        Ok(RegionReader::new(self.slot, len))
     }
 
     /// Makes room for a payload of so many bytes. The list stays. It takes no memory.

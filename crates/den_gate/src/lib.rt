@@ -7,12 +7,14 @@ mod error;
 mod find;
 mod gate;
 mod look;
+mod reader;
 mod room;
 mod take;
 mod window;
 
 pub use error::GateError;
 pub use gate::GateFile;
+pub use reader::RegionReader;
 
 #[cfg(test)]
 mod tests {
@@ -67,6 +69,26 @@ mod tests {
         disk.fuse(2);
         let list = again.regions(rt.alloc(), &mut disk)?;
         assert_eq!(rt; list.as_slice().len(), 3);
+        Ok(())
+    }
+
+    #[test]
+    fn reads_regions_one_by_one(rt: HostRuntime) -> Result<(), Fail> {
+        let mut disk = MemDisk::new(rt.alloc());
+        let mut gate = GateFile::load(Family::Log, &mut disk)?;
+        gate.append(&mut disk, b"abc")?;
+        gate.append(&mut disk, b"")?;
+        let mut reader = gate.reader(&mut disk)?;
+        let mut payload = Vec::new(rt.alloc());
+        disk.fuse(0);
+        let failed = reader.next(&mut disk, &mut payload);
+        assert_eq!(rt; failed, Err(GateError::StorageIoError));
+        disk.fuse(1);
+        assert_eq!(rt; reader.next(&mut disk, &mut payload)?, Some(0));
+        assert_eq!(rt; payload.as_slice(), b"abc".as_slice());
+        assert_eq!(rt; reader.next(&mut disk, &mut payload)?, Some(12));
+        assert_eq!(rt; payload.as_slice(), b"".as_slice());
+        assert_eq!(rt; reader.next(&mut disk, &mut payload)?, None);
         Ok(())
     }
 

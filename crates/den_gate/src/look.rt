@@ -33,7 +33,7 @@ pub fn look<D: Disk>(
     ensures goes_on { IfOk result (λ found. GoesOn at len found) }
     ensures found { IsTrue (D.kind disk.old).tells → IfOk result (λ found. Finds at ((D.content disk.old).reading slot) found) }
     ensures fits { window.new.filled ≤ 65536 }
-    ensures shows { IsTrue (D.kind disk.old).tells → OnOk result (Shows window.new ((D.content disk.old).reading slot)) }
+    ensures shows { IsTrue (D.kind disk.old).tells → Shows window.new ((D.content disk.old).reading slot) }
     ensures stays { IsTrue (D.kind disk.old).tells → Stays D.content D.moment D.images disk.old disk.new }
     ensures cause { HasCause (D.faults disk.old) (D.faults disk.new) (IsErr result) }
 {

@@ -47,7 +47,7 @@ impl Window {
         &self.bytes[(at - self.from) as usize..self.filled]
     }
 
-    // Shows the header at this offset of a file of this length, or what there is of it.
+    // Shows the header at this offset of a file of this length, or what there is of it; at a fault what it showed, or nothing.
     pub fn reach<D: Disk>(
         &mut self,
         disk: &mut D,
@@ -64,7 +64,7 @@ impl Window {
         ensures fits { self.new.filled ≤ 65536 }
         ensures low { OnOk result (self.new.from ≤ at) }
         ensures high { OnOk result (min (at + 9) len ≤ self.new.from + self.new.filled) }
-        ensures shows { IsTrue (D.kind disk.old).tells → OnOk result (Shows self.new ((D.content disk.old).reading place)) }
+        ensures shows { IsTrue (D.kind disk.old).tells → Shows self.new ((D.content disk.old).reading place) }
         ensures stays { IsTrue (D.kind disk.old).tells → Stays D.content D.moment D.images disk.old disk.new }
         ensures cause { HasCause (D.faults disk.old) (D.faults disk.new) (IsErr result) }
     {
@@ -74,7 +74,7 @@ impl Window {
         self.fill(disk, place, at, len)
     }
 
-    // Reads from this offset on.
+    // Reads from this offset on. At a fault it shows nothing.
     fn fill<D: Disk>(
         &mut self,
         disk: &mut D,
@@ -89,13 +89,14 @@ impl Window {
         ensures fits { self.new.filled ≤ 65536 }
         ensures from { OnOk result (self.new.from ≡ at) }
         ensures filled { OnOk result (self.new.filled ≡ min (len - at) 65536) }
-        ensures shows { IsTrue (D.kind disk.old).tells → OnOk result (Shows self.new ((D.content disk.old).reading place)) }
+        ensures shows { IsTrue (D.kind disk.old).tells → Shows self.new ((D.content disk.old).reading place) }
         ensures stays { IsTrue (D.kind disk.old).tells → Stays D.content D.moment D.images disk.old disk.new }
         ensures cause { HasCause (D.faults disk.old) (D.faults disk.new) (IsErr result) }
     {
         let filled = (len - at).min(PIECE as u64) as usize;
-        disk.read_at(place, at, &mut self.bytes[..filled])?;
         self.from = at;
+        self.filled = 0;
+        disk.read_at(place, at, &mut self.bytes[..filled])?;
         self.filled = filled;
         Ok(())
     }
