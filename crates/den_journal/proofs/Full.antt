@@ -9,6 +9,8 @@ use Rattle.den_model.specs.Image.{slot_of}
 use Rattle.den_model.specs.Sizes.{regions_size, found_size, family_size}
 use Rattle.den_gate.specs.declared.error.GateError.{GateError}
 use Rattle.den_gate.specs.declared.error.GateError.TheVariants as gate
+use Rattle.den_gate.specs.declared.gate.GateFile.{GateFile}
+use Rattle.den_gate.specs.Gate.{payloads}
 use Rattle.den_gate.specs.Causes.{Because}
 use Rattle.den_gate.specs.Gate.{IsCurrent}
 use Rattle.den_gate.specs.Slot.{IsShort, room_for}
@@ -16,7 +18,6 @@ use Rattle.den_disk.specs.declared.disk.Disk.{Ghosts}
 use Rattle.den_codec.specs.declared.error.Error.TheVariants.{StorageIoError}
 use Rattle.den_journal.specs.Shown.{Change, Shown}
 use Rattle.den_journal.specs.Writes.{Faulted, IsRefused, Tells}
-use Rattle.den_journal.specs.declared.family.Loaded.{Loaded}
 use Rattle.den_journal.specs.Folding.{end_from}
 use Rattle.den_journal.specs.Opening.{IsLoaded}
 use Rattle.den_journal.specs.Refused.{refusal}
@@ -29,12 +30,10 @@ found place [] = omega arith
 found place (p ∷ ps) = omega (arith, found (place + (9 + length p)) ps)
 
 -- the regions of a family's files that were loaded
-pub loaded_size : (family : Family) (l : Loaded) (old new : Content) → IsLoaded family l old new → SparesAll old new → end_from 0 l.payloads ≡ family_size family old.reading
-loaded_size family l old new is spares = omega (arith, ap found_size (loaded_regions family l old new is spares), found 0 l.payloads)
-
-pub loaded_weight : (family : Family) (l : Loaded) (old new : Content) → IsLoaded family l old new → SparesAll old new → l.gate.end ≡ family_size family old.reading
-loaded_weight family l old new is spares =
-    omega (arith, loaded_size family l old new is spares, end_is 0 l.payloads, ap (λ (ps : List (List ℕ)). length (open_regions ps)) is.list, is.at_rest.holds.size)
+pub loaded_weight : (family : Family) (gate : GateFile) (old new : Content) → IsLoaded family gate old new → SparesAll old new → gate.end ≡ family_size family old.reading
+loaded_weight family gate old new is spares =
+    let ps = payloads gate new.reading in
+    omega (arith, ap found_size (loaded_regions family gate old new is spares), found 0 ps, end_is 0 ps, is.at_rest.holds.size)
 
 -- ---- a full disk
 

@@ -9,10 +9,9 @@ ghost use Rattle.den_journal.specs.Folding.{IsUnread};
 ghost use Rattle.den_journal.specs.Opening.{IsLoaded, IsSettled};
 ghost use Rattle.den_journal.specs.Refused.{refusal};
 
-use den_codec::{Blob, Error, Rows};
+use den_codec::Error;
 use den_disk::{Disk, Family, Part, Place};
 use den_gate::{GateError, GateFile};
-use std::alloc::Global;
 
 // The number of a file of a family.
 pub(crate) fn file_number(family: Family, part: Part) -> u8
@@ -36,32 +35,21 @@ pub(crate) fn refusal(family: Family, error: GateError) -> Error
     }
 }
 
-// A family's gate file, and its payloads.
-#[derive(Drop)]
-pub(crate) struct Loaded {
-    pub(crate) gate: GateFile,
-    pub(crate) payloads: Rows<Blob>,
-}
-
-// Loads a family's gate file and reads its payloads, with all of the disk's files as they read.
-pub(crate) fn load<D: Disk>(alloc: Global, family: Family, disk: &mut D) -> Result<Loaded, Error>
+// Loads a family's gate file, with all of the disk's files as they read.
+pub(crate) fn load<D: Disk>(family: Family, disk: &mut D) -> Result<GateFile, Error>
     ensures disk { DiskGoesOn D.kind D.moment D.images D.faults disk.old disk.new }
     ensures images { IsTrue (D.kind disk.old).tells → NoNewImages (D.images disk.old) (D.images disk.new) (D.moment disk.old) (D.moment disk.new) }
     ensures spares { IsTrue (D.kind disk.old).tells → SparesAll (D.content disk.old) (D.content disk.new) }
     ensures settled { IsTrue (D.kind disk.old).tells → IsSettled result (D.content disk.old) (D.content disk.new) }
-    ensures loaded { IsTrue (D.kind disk.old).tells → IfOk result (λ l. IsLoaded family l (D.content disk.old) (D.content disk.new)) }
-    ensures family { IfOk result (λ l. l.gate.slot.family ≡ family) }
-    ensures ready { IfOk result (λ l. l.gate.failed ≡ false) }
+    ensures loaded { IsTrue (D.kind disk.old).tells → IfOk result (λ gate. IsLoaded family gate (D.content disk.old) (D.content disk.new)) }
+    ensures family { IfOk result (λ gate. gate.slot.family ≡ family) }
+    ensures ready { IfOk result (λ gate. gate.failed ≡ false) }
     ensures refused { IfErr result (IsUnread (Rose (D.faults disk.old) (D.faults disk.new)) (λ place offset. IsTrue (D.kind disk.old).tells →
         (place ≡ place_number (slot_of family (D.content disk.old).reading))
         × (regions ((D.content disk.old).reading (slot_of family (D.content disk.old).reading)) ≡ Err offset))) }
 {
-    let gate = match GateFile::load(family, disk) {
-        Ok(gate) => gate,
-        Err(error) => return Err(refusal(family, error)),
-    };
-    match gate.regions(alloc, disk) {
-        Ok(payloads) => Ok(Loaded { gate, payloads }),
+    match GateFile::load(family, disk) {
+        Ok(gate) => Ok(gate),
         Err(error) => Err(refusal(family, error)),
     }
 }

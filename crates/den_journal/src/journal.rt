@@ -29,12 +29,12 @@ impl<F: Folded> Journal<F> {
         ensures opens { Opens D.Disk (journal_shown F.Folded) F.FAMILY (journal_in F.Folded) disk.old disk.new result }
         ensures size { IsTrue (D.kind disk.old).tells → IfOk result (λ j. F.size (F.value j.held) ≤ family_size F.FAMILY (D.content disk.old).reading) }
     {
-        let loaded = load(alloc, F::FAMILY, disk)?;
-        let place = file_number(F::FAMILY, loaded.gate.part());
-        let held = replay(alloc, loaded.payloads.as_slice(), place)?;
+        let gate = load(F::FAMILY, disk)?;
+        let place = file_number(F::FAMILY, gate.part());
+        let held = replay(alloc, disk, &gate, place)?;
         Ok(Journal {
             alloc,
-            gate: loaded.gate,
+            gate,
             held,
             failed: false,
         })

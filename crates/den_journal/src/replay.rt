@@ -1,34 +1,48 @@
-// A value, made anew from the payloads of its files.
-ghost use Rattle.std.specs.Prelude.{◌≡◌, ◌≤◌, ◌<◌, ◌+◌, ◌-◌, ◌^◌, min, length, Ok, Err, IfOk, IfErr};
+// A value, made anew from the regions of its files.
+ghost use Rattle.std.specs.Prelude.{◌≡◌, ◌≤◌, Ok, Err, IsTrue, IfOk, IfErr};
+ghost use Rattle.den_disk.specs.Goes.{Rose};
 ghost use Rattle.den_model.specs.Regions.{placed};
-ghost use Rattle.den_journal.specs.Folding.{end_from, IsUnread};
+ghost use Rattle.den_gate.specs.Gate.{payloads, IsAtRest};
+ghost use Rattle.den_gate.specs.Reads.{OnlyReads};
+ghost use Rattle.den_journal.specs.Folding.{IsUnread};
 
 use crate::Folded;
-use den_codec::{Blob, Error};
+use crate::family::refusal;
+use den_codec::Error;
+use den_disk::Disk;
+use den_gate::GateFile;
 use std::alloc::Global;
 
-// The offset behind a region of this payload.
-fn behind(offset: u64, payload: &[u8]) -> u64
-    ensures { result ≡ min (offset + (9 + length payload.now)) (2 ^ 64 - 1) }
-{
-    offset
-        .saturating_add(9)
-        .saturating_add(payload.len() as u64)
-}
-
-// The value that these payloads of a file make, or the offset of the first that is no lawful word.
-pub(crate) fn replay<F: Folded>(alloc: Global, payloads: &[Blob], place: u8) -> Result<F, Error>
-    ensures read { IfOk result (λ held. F.from F.empty (placed 0 payloads.now) ≡ Ok (F.value held)) }
-    ensures size { IfOk result (λ held. F.size (F.value held) ≤ end_from 0 payloads.now) }
-    ensures refused { IfErr result (IsUnread ⊥ (λ at offset. (at ≡ place) × (end_from 0 payloads.now < 2 ^ 64 → F.from F.empty (placed 0 payloads.now) ≡ Err offset))) }
+// The value that a gate file's regions make, or the offset of the first that is no lawful word. It folds them one by one, as
+// they are read.
+pub(crate) fn replay<F: Folded, D: Disk>(
+    alloc: Global,
+    disk: &mut D,
+    gate: &GateFile,
+    place: u8,
+) -> Result<F, Error>
+    requires at_rest { IsTrue (D.kind disk.old).tells → IsAtRest gate.now (D.content disk.old) }
+    ensures disk { OnlyReads D.Disk disk.old disk.new }
+    ensures read { IsTrue (D.kind disk.old).tells → IfOk result (λ held. F.from F.empty (placed 0 (payloads gate.now (D.content disk.old).reading)) ≡ Ok (F.value held)) }
+    ensures size { IsTrue (D.kind disk.old).tells → IfOk result (λ held. F.size (F.value held) ≤ gate.now.end) }
+    ensures refused { IfErr result (IsUnread (Rose (D.faults disk.old) (D.faults disk.new)) (λ at offset. IsTrue (D.kind disk.old).tells →
+        (at ≡ place) × (F.from F.empty (placed 0 (payloads gate.now (D.content disk.old).reading)) ≡ Err offset))) }
 {
     let mut held = F::empty(alloc);
-    let mut offset = 0;
-    for payload in payloads {
-        if !held.take(alloc, payload.as_slice())? {
-            return Err(Error::DataCorruption { place, offset });
+    let mut payload = Vec::new(alloc);
+    let mut reader = match gate.reader(disk) {
+        Ok(reader) => reader,
+        Err(error) => return Err(refusal(F::FAMILY, error)),
+    };
+    'regions: loop {
+        match reader.next(disk, &mut payload) {
+            Ok(Some(offset)) => {
+                if !held.take(alloc, payload.as_slice())? {
+                    return Err(Error::DataCorruption { place, offset });
+                }
+            }
+            Ok(None) => return Ok(held),
+            Err(error) => return Err(refusal(F::FAMILY, error)),
         }
-        offset = behind(offset, payload.as_slice());
     }
-    Ok(held)
 }
