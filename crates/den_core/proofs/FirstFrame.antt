@@ -5,8 +5,8 @@ use Rattle.std.proofs.lemmas.Bool.{cases_lt, lt-ltb, le-ltb, le-leb, lt-leb}
 use Rattle.std.proofs.lemmas.List.{length-take-le, length-drop, drop-drop, drop_all, take_all}
 use Rattle.den_model.specs.declared.request.Frame.{Frame}
 use Rattle.den_model.specs.declared.request.Frame.TheVariants.{Bad}
-use Rattle.den_model.specs.Frames.{asked, frame_of, frames, frames_behind}
-use Rattle.den_model.specs.Reading.{request_in, size_at}
+use Rattle.den_model.specs.Frames.{frame_in, frame_of, frames, frames_behind}
+use Rattle.den_model.specs.Reading.{size_at}
 use Rattle.den_model.proofs.Cut.{frames_skip, frames_short}
 use Rattle.den_core.specs.Input.{IsPiece, IsBehind}
 
@@ -14,7 +14,7 @@ frame_of_long : (limit : ℕ) (body : List ℕ) → limit < length body → fram
 unfolding frame_of
 frame_of_long limit body long = rw (lt-leb (length body) limit long) refl
 
-frame_of_short : (limit : ℕ) (body : List ℕ) → length body ≤ limit → frame_of limit body ≡ asked (request_in body)
+frame_of_short : (limit : ℕ) (body : List ℕ) → length body ≤ limit → frame_of limit body ≡ frame_in body
 unfolding frame_of
 frame_of_short limit body short = rw (le-leb (length body) limit short) refl
 
@@ -26,10 +26,10 @@ behind_long limit size left rest long is = elim (cases_lt (length left) size) [
 ]
 
 -- a body was read
-pub behind_read : (limit size : ℕ) (left rest body : List ℕ) (whole : Bool) (frame : Frame) → whole ≡ true → size ≤ limit → IsPiece size left rest [] body whole → frame ≡ asked (request_in body) → IsBehind limit size left rest frame
+pub behind_read : (limit size : ℕ) (left rest body : List ℕ) (whole : Bool) (frame : Frame) → whole ≡ true → size ≤ limit → IsPiece size left rest [] body whole → frame ≡ frame_in body → IsBehind limit size left rest frame
 behind_read limit size left rest body whole frame all short piece is =
     let read : IsPiece size left rest [] body true = subst (λ b. IsPiece size left rest [] body b) all piece in
-    inr (read.0, is ∙ ap (λ l. asked (request_in l)) read.1 ∙ sym (frame_of_short limit (take size left) (omega (arith, length-take-le size left read.0))), read.2)
+    inr (read.0, is ∙ ap frame_in read.1 ∙ sym (frame_of_short limit (take size left) (omega (arith, length-take-le size left read.0))), read.2)
 
 frames_none : (limit : ℕ) → frames limit [] ≡ []
 unfolding frames_behind

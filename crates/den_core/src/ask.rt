@@ -1,10 +1,10 @@
 //! What a frame asks for, before anything is done.
-ghost use Rattle.std.specs.Prelude.{◌≡◌, ◌≤◌, ℕ, List, Option, IfOk, IfErr, Some, None, filter_map, option_map};
+ghost use Rattle.std.specs.Prelude.{◌≡◌, ◌≤◌, ℕ, List, Option, IfOk, IfErr, Some, None, true, filter_map, option_map};
 ghost use Rattle.den_codec.specs.declared.error.Error.TheVariants.{OutOfMemory};
+ghost use Rattle.den_model.specs.declared.request.Frame.TheVariants.{Good};
 ghost use Rattle.den_model.specs.Kv.{Durable, Kv};
-ghost use Rattle.den_model.specs.Step.{answer, answered, command_of, failed, has_ttl, pair_at, write};
+ghost use Rattle.den_model.specs.Step.{answer, answer_to, answered, command_of, failed, has_ttl, is_built, is_built_operation, pair_at, write};
 ghost use Rattle.den_model.specs.MapState.{part_of};
-ghost use Rattle.den_model.specs.Frames.{IsBuiltFrame};
 ghost use Rattle.den_core.specs.Asked.{outcome_of, HasRoom};
 ghost use Rattle.den_core.specs.Parts.{IsPlain};
 ghost use Rattle.den_core.specs.Weights.{asked_rise, commit_rise, frame_rise};
@@ -125,26 +125,44 @@ fn pairs_at<D: Disk, M: StateMachine<D>>(
     Ok(Rows::of(pairs))
 }
 
-/// What a leader makes of a frame.
-pub(crate) fn ask<D: Disk, M: StateMachine<D>>(
+/// Whether this version carries out the operation: a put without a time to live, or a delete.
+fn is_built_operation(operation: &Option<WriteOperation>) -> bool
+    ensures { result ≡ is_built_operation operation.now }
+{
+    match operation {
+        Some(WriteOperation::Insert { ttl_secs, .. }) => ttl_secs.is_none(),
+        Some(WriteOperation::Delete { .. }) => true,
+        Some(WriteOperation::CompareAndSwap { .. }) | None => false,
+    }
+}
+
+/// Whether this version answers the request: a put without a time to live, a delete, or a read of one key.
+fn is_built(request: &Request) -> bool
+    ensures { result ≡ is_built request.now }
+{
+    match request {
+        Request::Write(write) => is_built_operation(&write.command),
+        Request::Read(read) => read.keys.as_slice().len() == 1,
+        Request::Scan { .. } | Request::Watch { .. } | Request::Members { .. } => false,
+    }
+}
+
+/// What a leader makes of a request that this version answers.
+fn ask_request<D: Disk, M: StateMachine<D>>(
     alloc: Global,
     state: &M,
     running: &Running,
-    frame: Frame,
+    request: Request,
 ) -> Result<Asked, Error>
     requires plain { IsPlain running.now }
-    requires built { IsBuiltFrame frame }
+    requires built { is_built request ≡ true }
     ensures asked { IfOk result (λ asked. (term moment : ℕ)
-        → answer (record { durable = part_of (M.map state.now) term; running = running.now }) moment frame
+        → answer_to (record { durable = part_of (M.map state.now) term; running = running.now }) moment request
         ≡ outcome_of (record { durable = part_of (M.map state.now) term; running = running.now }) moment asked) }
     ensures room { IfOk result (λ asked. HasRoom (M.map state.now).mark.index asked) }
-    ensures rise { IfOk result (λ asked. asked_rise asked ≤ frame_rise frame) }
+    ensures rise { IfOk result (λ asked. asked_rise asked ≤ frame_rise (Good request)) }
     ensures refused { IfErr result (λ e. e ≡ OutOfMemory) }
 {
-    let request = match frame {
-        Frame::Good(request) => request,
-        Frame::Bad => return Ok(Asked::Say(Reply::Refused(Refusal::NotBuilt))),
-    };
     match request {
         Request::Write(write) => match write.command {
             Some(operation) => Ok(ask_write(
@@ -161,5 +179,28 @@ pub(crate) fn ask<D: Disk, M: StateMachine<D>>(
         Request::Scan { .. } | Request::Watch { .. } | Request::Members { .. } => {
             Ok(Asked::Say(Reply::Refused(Refusal::NotBuilt)))
         }
+    }
+}
+
+/// What a leader makes of a frame. A request that is not built yet is refused by name, and so is a bad frame.
+pub(crate) fn ask<D: Disk, M: StateMachine<D>>(
+    alloc: Global,
+    state: &M,
+    running: &Running,
+    frame: Frame,
+) -> Result<Asked, Error>
+    requires plain { IsPlain running.now }
+    ensures asked { IfOk result (λ asked. (term moment : ℕ)
+        → answer (record { durable = part_of (M.map state.now) term; running = running.now }) moment frame
+        ≡ outcome_of (record { durable = part_of (M.map state.now) term; running = running.now }) moment asked) }
+    ensures room { IfOk result (λ asked. HasRoom (M.map state.now).mark.index asked) }
+    ensures rise { IfOk result (λ asked. asked_rise asked ≤ frame_rise frame) }
+    ensures refused { IfErr result (λ e. e ≡ OutOfMemory) }
+{
+    match frame {
+        Frame::Good(request) if is_built(&request) => ask_request::<D, M>(
+            alloc, state, running, request,
+        ),
+        Frame::Good(_) | Frame::Bad => Ok(Asked::Say(Reply::Refused(Refusal::NotBuilt))),
     }
 }

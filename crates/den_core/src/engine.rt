@@ -5,7 +5,6 @@ ghost use Rattle.den_disk.specs.Families.{OldOrNew};
 ghost use Rattle.den_disk.specs.Files.{Files, Content, IsImage};
 ghost use Rattle.den_disk.specs.Goes.{Rose, DiskGoesOn};
 ghost use Rattle.den_model.specs.Apply.{applied, succeeds};
-ghost use Rattle.den_model.specs.Frames.{IsBuiltFrame};
 ghost use Rattle.den_model.specs.Image.{joined, term_of};
 ghost use Rattle.den_model.specs.Kv.{Durable, Kv};
 ghost use Rattle.den_model.specs.Log.{changed};
@@ -186,7 +185,6 @@ fn answer<D: Disk, G: LogStore<D>, T: MetaStore<D>, M: StateMachine<D>>(
     requires rests { IsTrue (D.kind disk.old).tells → AllRest ((G.shown engine.old.log).rests (D.content disk.old))
         ((T.shown engine.old.meta).rests (D.content disk.old)) (M.rests engine.old.state (D.content disk.old)) }
     requires moment { 1 ≤ moment }
-    requires built { IsBuiltFrame frame }
     ensures disk { DiskGoesOn D.kind D.moment D.images D.faults disk.old disk.new }
     ensures snapshot { IsTrue (D.kind disk.old).tells → SparesFamily snapshot_family D.content D.moment D.images disk.old disk.new }
     ensures moves { IsTrue (D.kind disk.old).tells

@@ -1,13 +1,12 @@
 //! Frames read from a link: a length in eight bytes, and so many bytes.
 ghost use Rattle.std.specs.Prelude.{◌≡◌, ◌+◌, ◌-◌, ◌<◌, ◌≤◌, IsTrue, IsSome, IfOk, IfSome, IfErr, OnErr, OnOk, length, take, drop, [], ℕ, vec_len};
 ghost use Rattle.den_disk.specs.Goes.{Rose, LinkGoesOn};
-ghost use Rattle.den_model.specs.Frames.{frame_of, asked, IsBuiltFrame, is_built, is_built_operation};
-ghost use Rattle.den_model.specs.Reading.{request_in};
+ghost use Rattle.den_model.specs.Frames.{frame_in};
 ghost use Rattle.den_model.specs.Sizes.{frame_size};
 ghost use Rattle.den_core.specs.Input.{Took, IsPiece, IsBehind, Found, HasCome};
 ghost use Rattle.den_core.specs.Refusals.{IsLinkRefusal};
 
-use den_codec::{Error, Frame, Request, WriteOperation, read_request};
+use den_codec::{Error, Frame, read_request};
 use den_disk::{Link, LinkFault, Piece};
 use std::alloc::{AllocError, Global};
 
@@ -95,37 +94,14 @@ fn read_body<L: Link>(link: &mut L, size: u64, body: &mut Vec<u8>) -> Result<boo
     Ok(true)
 }
 
-/// Whether this server carries out the operation: a put without a time to live, or a delete.
-fn is_built_operation(operation: &Option<WriteOperation>) -> bool
-    ensures { result ≡ is_built_operation operation.now }
-{
-    match operation {
-        Some(WriteOperation::Insert { ttl_secs, .. }) => ttl_secs.is_none(),
-        Some(WriteOperation::Delete { .. }) => true,
-        Some(WriteOperation::CompareAndSwap { .. }) | None => false,
-    }
-}
-
-/// Whether this server answers the request: a put without a time to live, a delete, or a read of one key.
-fn is_built(request: &Request) -> bool
-    ensures { result ≡ is_built request.now }
-{
-    match request {
-        Request::Write(write) => is_built_operation(&write.command),
-        Request::Read(read) => read.keys.as_slice().len() == 1,
-        Request::Scan { .. } | Request::Watch { .. } | Request::Members { .. } => false,
-    }
-}
-
-/// What a body asks: a request that this server answers, or a bad frame.
-fn asked(alloc: Global, body: &[u8]) -> Result<Frame, AllocError>
-    ensures is { IfOk result (λ frame. frame ≡ asked (request_in body.now)) }
-    ensures built { IfOk result IsBuiltFrame }
+/// What a body holds: a request, whether or not it is answered, or no word of one.
+fn frame_in(alloc: Global, body: &[u8]) -> Result<Frame, AllocError>
+    ensures is { IfOk result (λ frame. frame ≡ frame_in body.now) }
     ensures size { IfOk result (λ frame. frame_size frame ≤ length body.now) }
 {
     match read_request(alloc, body)? {
-        Some(request) if is_built(&request) => Ok(Frame::Good(request)),
-        Some(_) | None => Ok(Frame::Bad),
+        Some(request) => Ok(Frame::Good(request)),
+        None => Ok(Frame::Bad),
     }
 }
 
@@ -157,7 +133,6 @@ impl FrameReader {
         ensures sent { IsTrue (L.tells link.old) → L.sent link.new ≡ L.sent link.old }
         ensures counted { IsTrue (L.tells link.old) → L.taken link.new + length (L.left link.new) ≡ L.taken link.old + length (L.left link.old) }
         ensures behind { IfOk result (λ frame. IsTrue (L.tells link.old) → IsBehind self.old.limit size (L.left link.old) (L.left link.new) frame) }
-        ensures built { IfOk result IsBuiltFrame }
         ensures size { IfOk result (λ frame. L.taken link.old + frame_size frame ≤ L.taken link.new) }
         ensures limit { self.new.limit ≡ self.old.limit }
         ensures refused { IfErr result (λ e. IsLinkRefusal (Rose (L.faults link.old) (L.faults link.new)) e) }
@@ -169,7 +144,7 @@ impl FrameReader {
         if !read_body(link, size, &mut self.body)? {
             return Ok(Frame::Bad);
         }
-        Ok(asked(self.alloc, &self.body)?)
+        Ok(frame_in(self.alloc, &self.body)?)
     }
 
     /// The next frame, or `None` at the end of the input. After an error it is not called again.
@@ -178,7 +153,6 @@ impl FrameReader {
         ensures sent { IsTrue (L.tells link.old) → L.sent link.new ≡ L.sent link.old }
         ensures counted { IsTrue (L.tells link.old) → L.taken link.new + length (L.left link.new) ≡ L.taken link.old + length (L.left link.old) }
         ensures found { IfOk result (λ found. IsTrue (L.tells link.old) → Found self.old.limit (L.left link.old) (L.left link.new) found) }
-        ensures built { IfOk result (λ found. IfSome found IsBuiltFrame) }
         ensures size { IfOk result (λ found. IfSome found (HasCome (L.taken link.new - L.taken link.old))) }
         ensures nearer { IfOk result (λ found. IsSome found → L.budget link.new - L.taken link.new < L.budget link.old - L.taken link.old) }
         ensures limit { self.new.limit ≡ self.old.limit }

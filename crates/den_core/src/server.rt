@@ -4,7 +4,7 @@ ghost use Rattle.den_codec.specs.Full.{IsHeavy};
 ghost use Rattle.den_disk.specs.declared.place.Family.TheVariants.{Snapshot as snapshot_family};
 ghost use Rattle.den_disk.specs.Goes.{Rose, IsPrefix, stamped, added, DiskGoesOn, LinkGoesOn, ClockGoesOn};
 ghost use Rattle.den_model.specs.Crash.{Survives, IsWhole, IsDone, IsServed, Tells};
-ghost use Rattle.den_model.specs.Frames.{framed, frames, IsBuiltFrame};
+ghost use Rattle.den_model.specs.Frames.{framed, frames};
 ghost use Rattle.den_model.specs.Plan.{turn, turns, plan};
 ghost use Rattle.den_core.specs.Answers.{frames_of};
 ghost use Rattle.den_core.specs.Early.{EarlyIsRefused};
@@ -90,7 +90,6 @@ fn serve_frame<D: Disk, L: Link, S: Stepper<D>>(
 ) -> Result<(), Error>
     requires ready { S.ready stepper.old }
     requires rests { IsTrue (D.kind disk.old).tells → S.rests stepper.old (D.content disk.old) }
-    requires built { IsBuiltFrame frame }
     requires moment { 1 ≤ moment }
     ensures disk { DiskGoesOn D.kind D.moment D.images D.faults disk.old disk.new }
     ensures snapshot { IsTrue (D.kind disk.old).tells → SparesFamily snapshot_family D.content D.moment D.images disk.old disk.new }

@@ -6,7 +6,6 @@ ghost use Rattle.den_disk.specs.Goes.{Rose, DiskGoesOn};
 ghost use Rattle.den_model.specs.Kv.{Durable, Kv};
 ghost use Rattle.den_model.specs.Plan.{after, output, opening, turn};
 ghost use Rattle.den_model.specs.Crash.{Survives};
-ghost use Rattle.den_model.specs.Frames.{IsBuiltFrame};
 ghost use Rattle.den_journal.specs.Causes.{IsRefusal};
 ghost use Rattle.den_codec.specs.Full.{IsHeavy};
 ghost use Rattle.den_core.specs.Answers.{frames_of};
@@ -64,7 +63,6 @@ pub trait Stepper<D: Disk>: Drop {
         requires ready { ready self.old }
         requires rests { IsTrue (D.kind disk.old).tells → rests self.old (D.content disk.old) }
         requires moment { 1 ≤ moment }
-        requires built { IsBuiltFrame frame }
         ensures disk { DiskGoesOn D.kind D.moment D.images D.faults disk.old disk.new }
         ensures snapshot { IsTrue (D.kind disk.old).tells → SparesFamily snapshot_family D.content D.moment D.images disk.old disk.new }
         ensures survives { IsTrue (D.kind disk.old).tells

@@ -1,11 +1,12 @@
 -- One step of the system: what it becomes, what it replies, and which events it raises.
-use Rattle.std.specs.Prelude.{ℕ, ◌+◌, ◌-◌, ◌^◌, ◌==◌, ◌&&◌, ◌||◌, not, ℤ, pos, negsuc, Bool, true, false, List, [], ◌∷◌, ◌++◌, length, take, max, map, Option, Some, None, nat_le, nat_eq, if◌then◌else◌, unwrap_or, is_some, filter, filter_map, option_map}
+use Rattle.std.specs.Prelude.{ℕ, ◌+◌, ◌-◌, ◌^◌, ◌==◌, ◌&&◌, ◌||◌, not, ℤ, pos, negsuc, Bool, true, false, List, [], ◌∷◌, ◌++◌, length, take, max, map, Option, Some, None, nat_le, nat_eq, if◌then◌else◌, unwrap_or, is_none, is_some, filter, filter_map, option_map}
 use Rattle.std.specs.Cmp.Lexicographic.{pointwise}
 use Rattle.std.specs.List.{starts_with, ends_with}
 use Rattle.den_model.specs.declared.command.Command.{Command}
 use Rattle.den_model.specs.declared.command.Command.TheVariants as command
 use Rattle.den_model.specs.declared.command.WriteOperation.{WriteOperation}
 use Rattle.den_model.specs.declared.command.WriteOperation.TheVariants as operation
+use Rattle.den_model.specs.declared.request.Request.{Request}
 use Rattle.den_model.specs.declared.request.Request.TheVariants as request
 use Rattle.den_model.specs.declared.request.ReadConsistencyPolicy.{ReadConsistencyPolicy}
 use Rattle.den_model.specs.declared.request.ReadConsistencyPolicy.TheVariants.{LinearizableRead, LeaseRead, EventualConsistency}
@@ -205,13 +206,39 @@ abbrev pub by_id : List NodeMeta → List NodeMeta
 by_id [] = []
 by_id (n ∷ ns) = with_node n (by_id ns)
 
+-- what a request does and is answered
+abbrev pub answer_to : Kv → ℕ → Request → Outcome
+answer_to s moment (request.Write w) = elim w.command [ None ↦ invalid s | Some o ↦ write s moment (command_of o) ]
+answer_to s moment (request.Read r) = read s r.consistency_policy r.keys
+answer_to s moment (request.Scan client_id prefix) = scan s prefix
+answer_to s moment (request.Watch client_id prefix prev_kv key) = watch s key prefix prev_kv
+answer_to s moment (request.Members client_id) = says s (reply.Members (record s.running.members { nodes = by_id s.running.members.nodes }))
+
+-- ---- what this version answers
+
+-- the operations that it carries out: a put without a time to live, and a delete
+abbrev pub is_built_operation : Option WriteOperation → Bool
+is_built_operation None = false
+is_built_operation (Some (operation.Insert key value ttl_secs)) = is_none ttl_secs
+is_built_operation (Some (operation.Delete key)) = true
+is_built_operation (Some (operation.CompareAndSwap key expected new_value)) = false
+
+-- the requests that it answers: those operations, and a read of one key
+abbrev pub is_built : Request → Bool
+is_built (request.Write w) = is_built_operation w.command
+is_built (request.Read r) = length r.keys == 1
+is_built (request.Scan client_id prefix) = false
+is_built (request.Watch client_id prefix prev_kv key) = false
+is_built (request.Members client_id) = false
+
+-- refused by name, and nothing changes
+abbrev pub not_built : Kv → Outcome
+not_built s = says s (reply.Refused refusal.NotBuilt)
+
+-- A request that is not built yet is refused by name, and so is a bad frame.
 abbrev pub answer : Kv → ℕ → Frame → Outcome
-answer s moment Bad = says s (reply.Refused refusal.NotBuilt)
-answer s moment (Good (request.Write w)) = elim w.command [ None ↦ invalid s | Some o ↦ write s moment (command_of o) ]
-answer s moment (Good (request.Read r)) = read s r.consistency_policy r.keys
-answer s moment (Good (request.Scan client_id prefix)) = scan s prefix
-answer s moment (Good (request.Watch client_id prefix prev_kv key)) = watch s key prefix prev_kv
-answer s moment (Good (request.Members client_id)) = says s (reply.Members (record s.running.members { nodes = by_id s.running.members.nodes }))
+answer s moment Bad = not_built s
+answer s moment (Good r) = if is_built r then answer_to s moment r else not_built s
 
 abbrev pub silent : Kv → Outcome
 silent s = record { after = s; reply = None; events = [] }
