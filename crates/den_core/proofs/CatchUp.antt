@@ -6,7 +6,7 @@ use Rattle.den_model.specs.declared.command.Command.TheVariants.{Noop, Insert, D
 use Rattle.den_model.specs.declared.log_id.HardState.{HardState}
 use Rattle.den_model.specs.Apply.{applied, carried_out, succeeds, with_pair}
 use Rattle.den_model.specs.Entries.{LogEntry, rise_above}
-use Rattle.den_model.specs.Image.{durable, term_of, run_from, applied_all}
+use Rattle.den_model.specs.Image.{durable, term_of, gapless_from, applied_all}
 use Rattle.den_model.specs.Kv.{Durable}
 use Rattle.den_model.specs.Log.{Log, floor, above, between, last_index, last_of}
 use Rattle.den_model.specs.MapState.{MapState, map_applied, map_applied_all}
@@ -39,13 +39,13 @@ rising_up_to index (e ∷ es) rises =
     (omega (arith, over, rest.0), (rest.0, rest.1))
 
 -- a run rises
-pub run_rises : (index : ℕ) (es : List LogEntry) → run_from (index + 1) es ≡ true → rise_above index es ≡ true
+pub run_rises : (index : ℕ) (es : List LogEntry) → gapless_from (index + 1) es ≡ true → rise_above index es ≡ true
 run_rises index [] run = refl
 run_rises index (e ∷ es) run =
-    let two = both (e.index == index + 1) (run_from (index + 1 + 1) es) run in
+    let two = both (e.index == index + 1) (gapless_from (index + 1 + 1) es) run in
     let next : e.index ≡ index + 1 = eqb-true e.index (index + 1) two.0 in
     ap (λ b. b && rise_above e.index es) (lt-ltb index e.index (omega arith))
-    ∙ run_rises e.index es (subst (λ n. run_from (n + 1) es ≡ true) (sym next) two.1)
+    ∙ run_rises e.index es (subst (λ n. gapless_from (n + 1) es ≡ true) (sym next) two.1)
 
 -- what rises is in order
 pub rising_in_order : (index : ℕ) (es : List LogEntry) → rise_above index es ≡ true → out_of_order index es ≡ None
@@ -171,7 +171,7 @@ refusal_at place false lease d = refl
 durable_by : (l : Log) (h : Option HardState) (s : MapState) (es : List LogEntry) → above s.mark.index l.entries ≡ es
     → durable l h s ≡ (if agrees l s.mark.index es then Some (applied_all (durable_of h s) es) else None)
 unfolding durable
-durable_by l h s es are = ap (λ x. if nat_le (floor l) s.mark.index && run_from (s.mark.index + 1) x then Some (applied_all (durable_of h s) x) else None) are
+durable_by l h s es are = ap (λ x. if nat_le (floor l) s.mark.index && gapless_from (s.mark.index + 1) x then Some (applied_all (durable_of h s) x) else None) are
 
 pub refusal_is : (place : ℕ) (l : Log) (h : Option HardState) (s : MapState) (es : List LogEntry) → above s.mark.index l.entries ≡ es
     → opening_refusal place l h s ≡ refusal_by place (agrees l s.mark.index es) (has_expiry s || asks_lease es) ((term_of h == 2 ^ 64 - 1) || (last_of s.mark.index es == 2 ^ 64 - 1))
@@ -214,7 +214,7 @@ module _ (place : ℕ) (l : Log) (h : Option HardState) (s : MapState) (mark : �
 
   pub left_here : result ≡ None → IsLeft l s es
   left_here none =
-      let two = both (nat_le (floor l) s.mark.index) (run_from (s.mark.index + 1) es) (free none).0 in
+      let two = both (nat_le (floor l) s.mark.index) (gapless_from (s.mark.index + 1) es) (free none).0 in
       record { purged = leb-true (floor l) s.mark.index two.0; are = here; run = two.1 }
 
   pub free_here : result ≡ None → asks_lease es ≡ false

@@ -3,7 +3,7 @@ use Rattle.std.proofs.Common.{◌≡◌, ℕ, ◌≤◌, ◌+◌, ◌&&◌, Bool
 use Rattle.std.proofs.lemmas.Bool.{le-leb}
 use Rattle.den_model.specs.declared.log_id.HardState.{HardState}
 use Rattle.den_model.specs.Entries.{LogEntry}
-use Rattle.den_model.specs.Image.{durable, joined, run_from, applied_all}
+use Rattle.den_model.specs.Image.{durable, joined, gapless_from, applied_all}
 use Rattle.den_model.specs.Kv.{Durable}
 use Rattle.den_model.specs.Log.{Log, floor, above}
 use Rattle.den_model.specs.MapState.{MapState}
@@ -11,11 +11,11 @@ use Rattle.den_core.specs.Parts.{durable_of, IsCaughtUp}
 
 -- what the test and the entries above the mark give
 found : Bool → List LogEntry → Durable → ℕ → Option Durable
-found within entries d index = if within && run_from index entries then Some (applied_all d entries) else None
+found within entries d index = if within && gapless_from index entries then Some (applied_all d entries) else None
 
 -- the entries above the mark
 pub found_is : (l : Log) (h : Option HardState) (s : MapState) (entries : List LogEntry) → floor l ≤ s.mark.index → above s.mark.index l.entries ≡ entries
-    → durable l h s ≡ (if run_from (s.mark.index + 1) entries then Some (applied_all (durable_of h s) entries) else None)
+    → durable l h s ≡ (if gapless_from (s.mark.index + 1) entries then Some (applied_all (durable_of h s) entries) else None)
 unfolding durable found
 found_is l h s entries purged are =
     ap (λ es. found (nat_le (floor l) s.mark.index) es (durable_of h s) (s.mark.index + 1)) are

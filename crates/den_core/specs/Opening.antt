@@ -3,7 +3,7 @@ use Rattle.std.specs.Prelude.{◌≡◌, ◌≤◌, ◌⊎◌, ◌+◌, ◌-◌,
 use Rattle.den_codec.specs.declared.error.Error.{Error}
 use Rattle.den_codec.specs.declared.error.Error.TheVariants.{DataCorruption, FeatureNotEnabled, ProposeFailed, OutOfMemory}
 use Rattle.den_model.specs.declared.log_id.HardState.{HardState}
-use Rattle.den_model.specs.Image.{durable, run_from}
+use Rattle.den_model.specs.Image.{durable, gapless_from}
 use Rattle.den_model.specs.Entries.{LogEntry}
 use Rattle.den_model.specs.Kv.{Durable}
 use Rattle.den_model.specs.Log.{Log, above, floor}
@@ -27,13 +27,13 @@ opening_refusal place l h s = refusal_for place (has_expiry s || asks_lease (abo
 
 -- whether the log's entries go on behind this index without a gap
 abbrev pub agrees : Log → ℕ → List LogEntry → Bool
-agrees l index entries = nat_le (floor l) index && run_from (index + 1) entries
+agrees l index entries = nat_le (floor l) index && gapless_from (index + 1) entries
 
 -- they agree, and these entries are left to apply
 pub record IsLeft (l : Log) (s : MapState) (entries : List LogEntry) : Type 0 where
   pub purged : floor l ≤ s.mark.index
   pub are : above s.mark.index l.entries ≡ entries
-  pub run : run_from (s.mark.index + 1) entries ≡ true
+  pub run : gapless_from (s.mark.index + 1) entries ≡ true
 
 -- the same refusal, by tests
 abbrev pub refusal_by : ℕ → Bool → Bool → Bool → Option Error

@@ -7,7 +7,7 @@ ghost use Rattle.den_disk.specs.Families.{OldOrNew, SparesImages, SparesOthers};
 ghost use Rattle.den_disk.specs.Files.{Files, Content};
 ghost use Rattle.den_disk.specs.Goes.{Rose, DiskGoesOn};
 ghost use Rattle.den_model.specs.Crash.{Survives};
-ghost use Rattle.den_model.specs.Image.{durable, joined, run_from, term_of};
+ghost use Rattle.den_model.specs.Image.{durable, joined, gapless_from, term_of};
 ghost use Rattle.den_model.specs.Kv.{Durable};
 ghost use Rattle.den_model.specs.Log.{above, floor, last_of};
 ghost use Rattle.den_model.specs.MapState.{map_applied_all};
@@ -31,7 +31,7 @@ use std::alloc::Global;
 
 /// Whether the indices run on behind this one without a gap.
 fn run_behind(index: u64, entries: &[Entry]) -> bool
-    ensures { result ≡ run_from (index + 1) entries.now }
+    ensures { result ≡ gapless_from (index + 1) entries.now }
 {
     let mut last = index;
     for entry in entries {

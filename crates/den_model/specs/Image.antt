@@ -58,9 +58,9 @@ map_in files = in_regions family.State (map_from empty_map) files
 -- ---- the whole
 
 -- the indices run without a gap from this one
-abbrev pub run_from : ℕ → List LogEntry → Bool
-run_from index [] = true
-run_from index (e ∷ es) = e.index == index && run_from (index + 1) es
+abbrev pub gapless_from : ℕ → List LogEntry → Bool
+gapless_from index [] = true
+gapless_from index (e ∷ es) = e.index == index && gapless_from (index + 1) es
 
 abbrev pub applied_all : Durable → List LogEntry → Durable
 applied_all d [] = d
@@ -73,7 +73,7 @@ term_of (Some h) = h.current_term
 -- The map, and then the log's entries above its mark; none where they leave a gap.
 unfoldable pub durable : Log → Option HardState → MapState → Option Durable
 durable l h s =
-    if nat_le (floor l) s.mark.index && run_from (s.mark.index + 1) (above s.mark.index l.entries)
+    if nat_le (floor l) s.mark.index && gapless_from (s.mark.index + 1) (above s.mark.index l.entries)
     then Some (applied_all (part_of s (term_of h)) (above s.mark.index l.entries))
     else None
 
