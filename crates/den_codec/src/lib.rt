@@ -4,7 +4,6 @@
 mod config;
 mod error;
 mod fields;
-mod frames;
 mod log_words;
 mod reads;
 mod region_words;
@@ -27,7 +26,6 @@ pub use den_model::{
     WriteOperation,
 };
 pub use error::{ConfigPlace, Error};
-pub use frames::write_frame;
 pub use reads::ReadError;
 pub use request_words::read_request;
 pub use state_words::write_records;
