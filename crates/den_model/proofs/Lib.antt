@@ -1,6 +1,7 @@
 pub mod Numbers
 pub mod Cut
 pub mod Spells
+pub mod CutInto
 pub mod LogSpells
 pub mod Tagged
 pub mod RegionSpells
