@@ -2,12 +2,14 @@
 ghost use Rattle.std.specs.Prelude.{◌≡◌, ◌≤◌, ◌^◌, false, [], IfOk};
 ghost use Rattle.std.proofs.lemmas.Bool.{false≢true};
 
+use crate::cause::{Cause, Why, noted};
+use crate::folder_lock::FolderLock;
 use crate::place_file::{PlaceFile, Twelve};
 use crate::system_call::counted;
 use den_disk::{Disk, DiskFault, Place};
-use std::fs::OpenFile;
+use std::fs::{DirBuilder, OpenFile};
 use std::io::ErrorKind;
-use std::os::unix::fs::FileExt;
+use std::os::unix::fs::{DirBuilderExt, FileExt};
 use std::path::Path;
 use std::rt::Files;
 use std::{fs, io};
@@ -15,35 +17,43 @@ use std::{fs, io};
 // How long a file may be.
 const LIMIT: u64 = 1 << 62;
 
-/// The files `log.head`, `log.a` and so on of one folder, which is made at the first call. A missing file reads as an
-/// empty one, and is made when it is first written. Nothing else is to write in the folder meanwhile.
+/// The files `log.head`, `log.a` and so on of one folder. The first call makes the folder where it is missing, and takes
+/// its lock, which this value keeps as long as it lives; where another has it, each call is a fault, and no file is opened.
+/// A missing file reads as an empty one, and is made when it is first written. Nothing else is to write in the folder
+/// meanwhile.
 #[derive(Drop)]
 pub struct FolderDisk<R: Files> {
     folder: Folder<R>,
     moment: u64,
     faults: u64,
+    cause: Option<Cause>,
 }
 
 impl<R: Files> FolderDisk<R> {
-    /// The disk in the folder at this path.
+    /// The disk in the folder at this path. An empty path names no folder, and each call is a fault then.
     pub fn new(rt: R, folder: String) -> FolderDisk<R> {
         FolderDisk {
             folder: Folder {
                 rt,
                 path: folder,
-                is_open: false,
-                is_synced: false,
+                handle: None,
                 files: Twelve::new(),
             },
             moment: 0,
             faults: 0,
+            cause: None,
         }
+    }
+
+    /// Why the last call that failed did so.
+    pub fn cause(&self) -> Option<Cause> {
+        self.cause
     }
 }
 
 impl<R: Files> Disk for FolderDisk<R>
 where
-    R::File: FileExt,
+    R::File: FileExt + FolderLock,
 {
     ghost kind = { λ _. record { tells = false; limit = 2 ^ 62 } };
 
@@ -58,39 +68,28 @@ where
     ghost images_now = { λ _ _ told. absurd (false≢true told) };
 
     fn len(&mut self, place: Place) -> Result<u64, DiskFault> {
-        counted(&mut self.faults, self.folder.len(place), DiskFault)
+        let call = self.folder.len(place);
+        counted(&mut self.faults, noted(&mut self.cause, call), DiskFault)
     }
 
     fn read_at(&mut self, place: Place, at: u64, buffer: &mut [u8]) -> Result<(), DiskFault> {
-        counted(
-            &mut self.faults,
-            self.folder.read_at(place, at, buffer),
-            DiskFault,
-        )
+        let call = self.folder.read_at(place, at, buffer);
+        counted(&mut self.faults, noted(&mut self.cause, call), DiskFault)
     }
 
     fn write_at(&mut self, place: Place, at: u64, bytes: &[u8]) -> Result<(), DiskFault> {
-        counted(
-            &mut self.faults,
-            moved(&mut self.moment, self.folder.write_at(place, at, bytes)),
-            DiskFault,
-        )
+        let call = moved(&mut self.moment, self.folder.write_at(place, at, bytes));
+        counted(&mut self.faults, noted(&mut self.cause, call), DiskFault)
     }
 
     fn resize(&mut self, place: Place, len: u64) -> Result<(), DiskFault> {
-        counted(
-            &mut self.faults,
-            moved(&mut self.moment, self.folder.resize(place, len)),
-            DiskFault,
-        )
+        let call = moved(&mut self.moment, self.folder.resize(place, len));
+        counted(&mut self.faults, noted(&mut self.cause, call), DiskFault)
     }
 
     fn sync(&mut self) -> Result<(), DiskFault> {
-        counted(
-            &mut self.faults,
-            moved(&mut self.moment, self.folder.sync()),
-            DiskFault,
-        )
+        let call = moved(&mut self.moment, self.folder.sync());
+        counted(&mut self.faults, noted(&mut self.cause, call), DiskFault)
     }
 
     fn limit(&self) -> u64 {
@@ -103,123 +102,169 @@ where
 }
 
 // Moves the moment on where a call changed the disk. At its last value it stays.
-fn moved(moment: &mut u64, call: io::Result<()>) -> io::Result<()> {
+fn moved(moment: &mut u64, call: Result<(), Cause>) -> Result<(), Cause> {
     if call.is_ok() {
         *moment = moment.saturating_add(1);
     }
     call
 }
 
-// The folder and its open files. A call answers the error of the operating system.
+// The folder and its open files.
 #[derive(Drop)]
 struct Folder<R: Files> {
     rt: R,
     path: String,
-    is_open: bool,
-    is_synced: bool,
+    // The folder itself, with its lock, once it is open.
+    handle: Option<PlaceFile<R::File>>,
     files: Twelve<R::File>,
 }
 
 impl<R: Files> Folder<R>
 where
-    R::File: FileExt,
+    R::File: FileExt + FolderLock,
 {
-    fn len(&mut self, place: Place) -> io::Result<u64>
+    fn len(&mut self, place: Place) -> Result<u64, Cause>
         ensures { IfOk result (λ len. len ≤ 2 ^ 62) }
     {
         self.open()?;
-        let len = match self.files.at(place) {
-            Some(file) => file.len()?,
-            None => 0,
+        let Some(file) = self.files.at(place) else {
+            return Ok(0);
         };
+        let len = file.len().map_err(|e| Cause::Call(Some(place), e.into()))?;
         if len > LIMIT {
-            return Err(io::Error::from(ErrorKind::FileTooLarge));
+            return Err(Cause::Call(Some(place), Why::Kind(ErrorKind::FileTooLarge)));
         }
         Ok(len)
     }
 
-    fn read_at(&mut self, place: Place, at: u64, buffer: &mut [u8]) -> io::Result<()> {
+    fn read_at(&mut self, place: Place, at: u64, buffer: &mut [u8]) -> Result<(), Cause> {
         self.open()?;
-        match self.files.at(place) {
+        let read = match self.files.at(place) {
             Some(file) => file.read_at(at, buffer),
             None if buffer.is_empty() => Ok(()),
             None => Err(io::Error::from(ErrorKind::UnexpectedEof)),
+        };
+        read.map_err(|e| Cause::Call(Some(place), e.into()))
+    }
+
+    fn write_at(&mut self, place: Place, at: u64, bytes: &[u8]) -> Result<(), Cause> {
+        self.made(place)?
+            .write_at(at, bytes)
+            .map_err(|e| Cause::Call(Some(place), e.into()))
+    }
+
+    fn resize(&mut self, place: Place, len: u64) -> Result<(), Cause> {
+        let file = self.made(place)?;
+        match file.resize(len) {
+            Ok(()) => Ok(()),
+            Err(e) => Err(file.cause(Some(place), e)),
         }
     }
 
-    fn write_at(&mut self, place: Place, at: u64, bytes: &[u8]) -> io::Result<()> {
-        self.made(place)?.write_at(at, bytes)
-    }
-
-    fn resize(&mut self, place: Place, len: u64) -> io::Result<()> {
-        self.made(place)?.resize(len)
-    }
-
-    fn sync(&mut self) -> io::Result<()> {
+    fn sync(&mut self) -> Result<(), Cause> {
         self.open()?;
-        self.sync_names()?;
+        sync_names(&mut self.handle)?;
         self.files.sync()
     }
 
-    // Makes the folder and opens the files that are there, at the first call.
-    fn open(&mut self) -> io::Result<()> {
-        if !self.is_open {
-            let path = Path::new(self.path.as_str());
-            make_folder(&self.rt, path)?;
-            self.files = Twelve::open(&self.rt, *self.path.allocator(), path)?;
-            self.is_open = true;
+    // The first call opens the folder.
+    fn open(&mut self) -> Result<(), Cause> {
+        match self.handle {
+            Some(_) => Ok(()),
+            None => self.open_first(),
         }
-        Ok(())
     }
 
-    // Makes the names of new files last.
-    fn sync_names(&mut self) -> io::Result<()> {
-        if !self.is_synced {
-            sync_folder(&self.rt, Path::new(self.path.as_str()))?;
-            self.is_synced = true;
+    // Makes the folder, takes its lock and opens the files that are there.
+    fn open_first(&mut self) -> Result<(), Cause> {
+        if self.path.is_empty() {
+            return Err(Cause::NoName);
         }
+        let path = Path::new(self.path.as_str());
+        let handle = match locked(&self.rt, path) {
+            Ok(Some(handle)) => handle,
+            Ok(None) => return Err(Cause::InUse),
+            Err(e) => return Err(Cause::Call(None, e.into())),
+        };
+        self.files = Twelve::open(&self.rt, *self.path.allocator(), path)?;
+        self.handle = Some(PlaceFile::new(handle));
         Ok(())
     }
 
     // The file of a place, which is made where it is missing.
-    fn made(&mut self, place: Place) -> io::Result<&mut PlaceFile<R::File>> {
+    fn made(&mut self, place: Place) -> Result<&mut PlaceFile<R::File>, Cause> {
         self.open()?;
-        let path = Path::new(self.path.as_str());
         let slot = self.files.at(place);
         let file = match slot {
             Some(file) => file,
             None => {
-                self.is_synced = false;
+                if let Some(handle) = &mut self.handle {
+                    handle.note_length();
+                }
+                let path = Path::new(self.path.as_str());
                 slot.insert(PlaceFile::make(&self.rt, *self.path.allocator(), path, place)?)
             }
         };
-        if !self.is_synced {
-            sync_folder(&self.rt, path)?;
-            self.is_synced = true;
-        }
+        sync_names(&mut self.handle)?;
         Ok(file)
     }
 }
 
-// Makes a folder, and makes the names of those made last.
+// Makes the names of new files last.
+fn sync_names<F: OpenFile>(handle: &mut Option<PlaceFile<F>>) -> Result<(), Cause> {
+    let Some(handle) = handle else {
+        return Ok(());
+    };
+    match handle.sync() {
+        Ok(()) => Ok(()),
+        Err(e) => Err(handle.cause(None, e)),
+    }
+}
+
+// The open folder, which is made where it is missing, with its lock. None where another handle has the lock.
+fn locked<R: Files>(rt: &R, folder: Path<'_>) -> io::Result<Option<R::File>>
+where
+    R::File: FolderLock,
+{
+    make_folder(rt, folder)?;
+    let handle = fs::open(rt, folder)?;
+    Ok(handle.take_lock()?.then_some(handle))
+}
+
+// Makes a folder and those above it that are missing, for their owner alone, and makes each one's name last before the
+// next is made. The first that is there may have been made by a process that ended before its name was synced.
 fn make_folder<R: Files>(rt: &R, folder: Path<'_>) -> io::Result<()> {
     let missing = folder
         .ancestors()
         .take_while(|above| matches!(above.try_exists(rt), Ok(false)))
         .count();
-    fs::create_dir_all(rt, folder)?;
-    for above in folder.ancestors().skip(1).take(missing) {
-        sync_folder(rt, above)?;
+    for level in (0..=missing).rev() {
+        let mut above = folder.ancestors().skip(level);
+        if let Some(made) = above.next() {
+            DirBuilder::new()
+                .recursive(true)
+                .mode(0o700)
+                .create(rt, made)?;
+        }
+        if let Some(parent) = above.next() {
+            sync_parent(rt, parent, level < missing)?;
+        }
     }
     Ok(())
 }
 
-fn sync_folder<R: Files>(rt: &R, folder: Path<'_>) -> io::Result<()> {
-    let name = match folder.as_str() {
+// Syncs the folder above one. Where the one was there before, and the folder above may not be read, its name was made by
+// somebody else.
+fn sync_parent<R: Files>(rt: &R, parent: Path<'_>, is_new: bool) -> io::Result<()> {
+    let name = match parent.as_str() {
         "" => ".",
         name => name,
     };
-    fs::open(rt, name)?.sync_all()
+    match fs::open(rt, name) {
+        Ok(parent) => parent.sync_all(),
+        Err(e) if e.kind() == ErrorKind::PermissionDenied && !is_new => Ok(()),
+        Err(e) => Err(e),
+    }
 }
 
 #[cfg(test)]
@@ -242,6 +287,11 @@ mod tests {
         disk.resize(PLACE, 8)?;
         disk.write_at(PLACE, 2, b"abc")?;
         disk.sync()?;
+        let mut second = FolderDisk::new(rt, String::from_str(rt.alloc(), "kept/store")?);
+        assert_eq!(rt; second.len(PLACE), Err(DiskFault));
+        assert!(rt; matches!(second.cause(), Some(Cause::InUse)));
+        let moment = disk.moment();
+        drop(disk);
 
         let mut again = FolderDisk::new(rt, String::from_str(rt.alloc(), "kept/store")?);
         assert_eq!(rt; again.len(PLACE)?, 8);
@@ -251,7 +301,7 @@ mod tests {
         assert_eq!(rt; again.faults, 0);
         assert_eq!(rt; again.read_at(PLACE, 1, &mut bytes), Err(DiskFault));
         assert_eq!(rt; again.faults, 1);
-        assert_eq!(rt; (disk.moment(), again.moment()), (3, 0));
+        assert_eq!(rt; (moment, again.moment()), (3, 0));
         fs::remove_dir_all(&rt, "kept")?;
         Ok(())
     }

@@ -3,16 +3,22 @@
 //! failed.
 #![tactic(auto)]
 
+mod cause;
 mod file_source;
 mod folder_disk;
+mod folder_lock;
 mod host_clock;
 mod place_file;
+mod standard_descriptors;
 mod std_link;
 mod std_sink;
 mod system_call;
 
+pub use cause::{Cause, Why};
 pub use file_source::FileSource;
 pub use folder_disk::FolderDisk;
+pub use folder_lock::FolderLock;
 pub use host_clock::HostClock;
+pub use standard_descriptors::StandardDescriptors;
 pub use std_link::StdLink;
 pub use std_sink::StdSink;

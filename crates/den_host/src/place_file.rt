@@ -1,12 +1,13 @@
 // The open files of a folder, and which of them were written since they were last synced.
 ghost use Rattle.std.specs.Prelude.{◌≡◌, OnOk, OnErr, IsErr};
 
+use crate::cause::Cause;
 use den_disk::{Family, Part, Place};
 use std::alloc::Global;
 use std::fs::{OpenFile, OpenOptions};
 use std::io;
 use std::io::ErrorKind;
-use std::os::unix::fs::FileExt;
+use std::os::unix::fs::{FileExt, OpenOptionsExt};
 use std::path::Path;
 use std::rt::Files;
 
@@ -20,64 +21,113 @@ enum Unsynced {
     Lost,
 }
 
-// An open file.
+// An open file of a folder, or the folder itself.
 #[derive(Drop)]
 pub(crate) struct PlaceFile<F> {
     file: F,
+    // Its length, where it is known: a call that failed leaves it open.
+    len: Option<u64>,
     unsynced: Unsynced,
 }
 
 impl<F> PlaceFile<F> {
-    // Opens a file that is there. What an earlier process left in it counts as not synced.
+    // What an earlier process left in it counts as not synced.
+    pub(crate) fn new(file: F) -> PlaceFile<F> {
+        PlaceFile {
+            file,
+            len: None,
+            unsynced: Unsynced::Length,
+        }
+    }
+
+    // Opens a file that is there.
     fn open<R: Files<File = F>>(
         rt: &R,
         alloc: Global,
         folder: Path<'_>,
         place: Place,
-    ) -> io::Result<Option<PlaceFile<F>>> {
-        let path = folder.join(alloc, place.name())?;
-        match OpenOptions::new()
-            .read(true)
-            .write(true)
-            .open(rt, path.as_path())
-        {
-            Ok(file) => Ok(Some(PlaceFile {
-                file,
-                unsynced: Unsynced::Length,
-            })),
+    ) -> Result<Option<PlaceFile<F>>, Cause> {
+        match open_place(OpenOptions::new(), rt, alloc, folder, place) {
+            Ok(file) => Ok(Some(PlaceFile::new(file))),
             Err(e) if e.kind() == ErrorKind::NotFound => Ok(None),
-            Err(e) => Err(e),
+            Err(e) => Err(Cause::Call(Some(place), e.into())),
         }
     }
 
-    // Makes a file.
+    // Makes a file, which its owner alone may read and write.
     pub(crate) fn make<R: Files<File = F>>(
         rt: &R,
         alloc: Global,
         folder: Path<'_>,
         place: Place,
-    ) -> io::Result<PlaceFile<F>> {
-        let path = folder.join(alloc, place.name())?;
-        let file = OpenOptions::new()
-            .read(true)
-            .write(true)
-            .create(true)
-            .open(rt, path.as_path())?;
-        Ok(PlaceFile {
-            file,
-            unsynced: Unsynced::Length,
-        })
+    ) -> Result<PlaceFile<F>, Cause> {
+        let mut options = OpenOptions::new();
+        options.create(true).mode(0o600);
+        match open_place(options, rt, alloc, folder, place) {
+            Ok(file) => Ok(PlaceFile::new(file)),
+            Err(e) => Err(Cause::Call(Some(place), e.into())),
+        }
+    }
+
+    // Why a call on it failed: a sync is told from others, since after it reads may show what the disk does not have.
+    pub(crate) fn cause(&self, place: Option<Place>, error: io::Error) -> Cause {
+        match self.unsynced {
+            Unsynced::Lost => Cause::Sync(place, error.into()),
+            _ => Cause::Call(place, error.into()),
+        }
+    }
+
+    // Notes that a sync has to take more than bytes: names in a folder, or a length.
+    pub(crate) fn note_length(&mut self)
+        ensures lost { self.old.unsynced ≡ Unsynced.Lost → self.new.unsynced ≡ Unsynced.Lost }
+    {
+        match self.unsynced {
+            Unsynced::Lost => {}
+            _ => self.unsynced = Unsynced::Length,
+        }
+    }
+}
+
+impl<F: OpenFile> PlaceFile<F> {
+    // Makes last what was written since the last sync.
+    pub(crate) fn sync(&mut self) -> io::Result<()>
+        ensures synced { OnOk result (self.new.unsynced ≡ Unsynced.Nothing) }
+        ensures lost { self.old.unsynced ≡ Unsynced.Lost → IsErr result × (self.new.unsynced ≡ Unsynced.Lost) }
+        ensures failed { OnErr result (self.new.unsynced ≡ Unsynced.Lost) }
+    {
+        let synced = match self.unsynced {
+            Unsynced::Nothing => return Ok(()),
+            Unsynced::Bytes => self.file.sync_data(),
+            Unsynced::Length => self.file.sync_all(),
+            Unsynced::Lost => Err(io::Error::from(ErrorKind::Other)),
+        };
+        self.unsynced = match synced {
+            Ok(()) => Unsynced::Nothing,
+            Err(_) => Unsynced::Lost,
+        };
+        if synced.is_err() {
+            self.len = None;
+        }
+        synced
     }
 }
 
 impl<F: OpenFile + FileExt> PlaceFile<F> {
-    pub(crate) fn len(&self) -> io::Result<u64> {
-        Ok(self.file.metadata()?.len())
+    // Its length, of which the operating system is asked where it is not known.
+    pub(crate) fn len(&mut self) -> io::Result<u64> {
+        match self.len {
+            Some(len) => Ok(len),
+            None => Ok(*self.len.insert(self.file.metadata()?.len())),
+        }
     }
 
     // Fills the buffer, or fails where the file ends inside it.
-    pub(crate) fn read_at(&self, at: u64, buffer: &mut [u8]) -> io::Result<()> {
-        self.file.read_exact_at(buffer, at)
+    pub(crate) fn read_at(&mut self, at: u64, buffer: &mut [u8]) -> io::Result<()> {
+        let read = self.file.read_exact_at(buffer, at);
+        if read.is_err() {
+            self.len = None;
+        }
+        read
     }
 
     pub(crate) fn write_at(&mut self, at: u64, bytes: &[u8]) -> io::Result<()>
@@ -87,7 +137,11 @@ impl<F: OpenFile + FileExt> PlaceFile<F> {
         if let Unsynced::Nothing = self.unsynced {
             self.unsynced = Unsynced::Bytes;
         }
-        self.file.write_all_at(bytes, at)
+        let known = self.len.take();
+        self.file.write_all_at(bytes, at)?;
+        let end = at.saturating_add(bytes.len() as u64);
+        self.len = known.map(|len| len.max(end));
+        Ok(())
     }
 
     // Sets the length, and makes it last.
@@ -95,32 +149,25 @@ impl<F: OpenFile + FileExt> PlaceFile<F> {
         ensures synced { OnOk result (self.new.unsynced ≡ Unsynced.Nothing) }
         ensures lost { self.old.unsynced ≡ Unsynced.Lost → IsErr result × (self.new.unsynced ≡ Unsynced.Lost) }
     {
-        match self.unsynced {
-            Unsynced::Lost => {}
-            _ => self.unsynced = Unsynced::Length,
-        }
+        self.note_length();
+        self.len = None;
         self.file.set_len(len)?;
-        self.sync()
+        self.sync()?;
+        self.len = Some(len);
+        Ok(())
     }
+}
 
-    // Makes last what was written since the last sync.
-    fn sync(&mut self) -> io::Result<()>
-        ensures synced { OnOk result (self.new.unsynced ≡ Unsynced.Nothing) }
-        ensures lost { self.old.unsynced ≡ Unsynced.Lost → IsErr result × (self.new.unsynced ≡ Unsynced.Lost) }
-        ensures failed { OnErr result (self.new.unsynced ≡ Unsynced.Lost) }
-    {
-        let synced = match self.unsynced {
-            Unsynced::Nothing => Ok(()),
-            Unsynced::Bytes => self.file.sync_data(),
-            Unsynced::Length => self.file.sync_all(),
-            Unsynced::Lost => Err(io::Error::from(ErrorKind::Other)),
-        };
-        self.unsynced = match synced {
-            Ok(()) => Unsynced::Nothing,
-            Err(_) => Unsynced::Lost,
-        };
-        synced
-    }
+// Opens the file of a place for reading and writing.
+fn open_place<R: Files>(
+    mut options: OpenOptions,
+    rt: &R,
+    alloc: Global,
+    folder: Path<'_>,
+    place: Place,
+) -> io::Result<R::File> {
+    let path = folder.join(alloc, place.name())?;
+    options.read(true).write(true).open(rt, path.as_path())
 }
 
 // The three files of one family, those that are there.
@@ -145,7 +192,7 @@ impl<F> Three<F> {
         alloc: Global,
         folder: Path<'_>,
         family: Family,
-    ) -> io::Result<Three<F>> {
+    ) -> Result<Three<F>, Cause> {
         Ok(Three {
             head: PlaceFile::open(
                 rt,
@@ -186,18 +233,26 @@ impl<F> Three<F> {
     }
 }
 
-impl<F: OpenFile + FileExt> Three<F> {
-    fn sync(&mut self) -> io::Result<()> {
-        if let Some(file) = &mut self.head {
-            file.sync()?;
-        }
-        if let Some(file) = &mut self.a {
-            file.sync()?;
-        }
-        if let Some(file) = &mut self.b {
-            file.sync()?;
-        }
-        Ok(())
+impl<F: OpenFile> Three<F> {
+    fn sync(&mut self, family: Family) -> Result<(), Cause> {
+        sync_one(&mut self.head, family, Part::Head)?;
+        sync_one(&mut self.a, family, Part::A)?;
+        sync_one(&mut self.b, family, Part::B)
+    }
+}
+
+// Makes last what was written in a file since its last sync, where it is there.
+fn sync_one<F: OpenFile>(
+    file: &mut Option<PlaceFile<F>>,
+    family: Family,
+    part: Part,
+) -> Result<(), Cause> {
+    let Some(file) = file else {
+        return Ok(());
+    };
+    match file.sync() {
+        Ok(()) => Ok(()),
+        Err(e) => Err(file.cause(Some(Place { family, part }), e)),
     }
 }
 
@@ -225,7 +280,7 @@ impl<F> Twelve<F> {
         rt: &R,
         alloc: Global,
         folder: Path<'_>,
-    ) -> io::Result<Twelve<F>> {
+    ) -> Result<Twelve<F>, Cause> {
         Ok(Twelve {
             log: Three::open(rt, alloc, folder, Family::Log)?,
             meta: Three::open(rt, alloc, folder, Family::Meta)?,
@@ -244,13 +299,13 @@ impl<F> Twelve<F> {
     }
 }
 
-impl<F: OpenFile + FileExt> Twelve<F> {
+impl<F: OpenFile> Twelve<F> {
     // Makes last what was written in each since its last sync.
-    pub(crate) fn sync(&mut self) -> io::Result<()> {
-        self.log.sync()?;
-        self.meta.sync()?;
-        self.state.sync()?;
-        self.snapshot.sync()
+    pub(crate) fn sync(&mut self) -> Result<(), Cause> {
+        self.log.sync(Family::Log)?;
+        self.meta.sync(Family::Meta)?;
+        self.state.sync(Family::State)?;
+        self.snapshot.sync(Family::Snapshot)
     }
 }
 
@@ -308,10 +363,7 @@ mod tests {
     }
 
     fn open_counted(syncs: &Cell<u32>, failing: u32) -> Option<PlaceFile<Counted<'_>>> {
-        Some(PlaceFile {
-            file: Counted { syncs, failing },
-            unsynced: Unsynced::Length,
-        })
+        Some(PlaceFile::new(Counted { syncs, failing }))
     }
 
     #[test]
@@ -368,8 +420,8 @@ mod tests {
             a: None,
             b: None,
         };
-        assert!(rt; files.sync().is_err());
-        assert!(rt; files.sync().is_err());
+        assert!(rt; files.sync(Family::Log).is_err());
+        assert!(rt; files.sync(Family::Log).is_err());
         assert_eq!(rt; syncs.get(), 1);
     }
 }

@@ -1,6 +1,7 @@
 //! The machine's standard input and output.
 ghost use Rattle.std.specs.Prelude.{◌≡◌, ◌≤◌, ◌^◌, false, [], IfOk, length};
 
+use crate::cause::{Cause, noted};
 use crate::system_call::{counted, read_once};
 use den_disk::{Disk, Link, LinkFault, Piece};
 use std::io;
@@ -19,6 +20,7 @@ pub struct StdLink<R: Input + Alloc> {
     input: Option<BufReader<R::Reader, R::A>>,
     taken: u64,
     faults: u64,
+    cause: Option<Cause>,
 }
 
 impl<R: Input + Print + Alloc> StdLink<R> {
@@ -29,7 +31,13 @@ impl<R: Input + Print + Alloc> StdLink<R> {
             input: None,
             taken: 0,
             faults: 0,
+            cause: None,
         }
+    }
+
+    /// Why the last call that failed did so.
+    pub fn cause(&self) -> Option<Cause> {
+        self.cause
     }
 }
 
@@ -52,6 +60,7 @@ impl<R: Input + Print + Alloc> Link for StdLink<R> {
         } else {
             Err(io::Error::from(ErrorKind::QuotaExceeded))
         };
+        let read = noted(&mut self.cause, read.map_err(|e| Cause::Input(e.into())));
         let n = counted(&mut self.faults, read, LinkFault)?;
         if n == 0 {
             return Ok(Piece::End);
@@ -61,7 +70,11 @@ impl<R: Input + Print + Alloc> Link for StdLink<R> {
     }
 
     fn send<D: Disk>(&mut self, piece: &[u8], _disk: &D) -> Result<(), LinkFault> {
-        counted(&mut self.faults, self.rt.write_all(piece), LinkFault)
+        let sent = self
+            .rt
+            .write_all(piece)
+            .map_err(|e| Cause::Output(e.into()));
+        counted(&mut self.faults, noted(&mut self.cause, sent), LinkFault)
     }
 }
 
@@ -152,6 +165,7 @@ mod tests {
         let mut link = StdLink::new(Piped { rt });
         assert_eq!(rt; link.send(b"reply", &disk), Err(LinkFault));
         assert_eq!(rt; link.faults, 1);
+        assert!(rt; matches!(link.cause(), Some(Cause::Output(_))));
     }
 
     #[test]

@@ -9,7 +9,11 @@ use std::io::{ErrorKind, Read};
 const TRIES: u32 = 1_000_000;
 
 // Hands on what a call of the operating system gave, and counts it where it failed. At its last value the count stays.
-pub(crate) fn counted<T, F: Drop>(faults: &mut u64, call: io::Result<T>, fault: F) -> Result<T, F>
+pub(crate) fn counted<T, E: Drop, F: Drop>(
+    faults: &mut u64,
+    call: Result<T, E>,
+    fault: F,
+) -> Result<T, F>
     ensures cause { HasCause faults.old faults.new (IsErr result) }
     ensures given { IfOk result (λ x. call ≡ Ok x) }
 {

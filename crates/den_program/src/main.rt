@@ -8,7 +8,7 @@ mod status;
 mod words;
 
 use den_disk::{ListClock, MemDisk, MemLink, MemSource};
-use den_host::{FolderDisk, HostClock, StdLink, StdSink};
+use den_host::{Cause, FolderDisk, HostClock, StandardDescriptors, StdLink, StdSink};
 use serving::serve_main;
 use std::alloc::Global;
 use std::process::ExitCode;
@@ -25,7 +25,22 @@ fn words_after_name(rt: &(impl Env + Alloc), alloc: Global) -> io::Result<Vec<St
     Ok(words)
 }
 
+// Writes, behind the line of a fault, what it was. That it cannot be written changes nothing.
+fn explain(rt: &impl Eprint, cause: Option<Cause>) {
+    if let Some(cause) = cause {
+        let _ = eprintln!(rt; "  {cause}");
+    }
+}
+
 fn main(rt: HostRuntime) -> ExitCode {
+    // Before anything else is opened: a file of the folder never has the number of a standard stream.
+    let _held = match StandardDescriptors::hold(&rt) {
+        Ok(held) => held,
+        Err(error) => {
+            let _ = eprintln!(rt; "den_server: link fault\n  the null device: {error}");
+            return ExitCode::from(6);
+        }
+    };
     let alloc = rt.alloc();
     let words = match words_after_name(&rt, alloc) {
         Ok(words) => words,
@@ -42,9 +57,15 @@ fn main(rt: HostRuntime) -> ExitCode {
             let mut disk = FolderDisk::new(&rt, names.folder);
             let mut link = StdLink::new(&rt);
             let mut clock = HostClock::new(&rt);
-            serve_main(
+            let status = serve_main(
                 alloc, &words, &mut conf, &mut disk, &mut link, &mut clock, &mut errs,
-            )
+            );
+            match status {
+                5 => explain(&rt, disk.cause()),
+                6 => explain(&rt, link.cause()),
+                _ => {}
+            }
+            status
         }
         Ok(None) => {
             let mut disk = MemDisk::new(alloc);
