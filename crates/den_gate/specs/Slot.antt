@@ -1,5 +1,5 @@
 -- What the bytes of a slot stand for, by the payloads of its regions.
-use Rattle.std.specs.Prelude.{◌≡◌, ◌≢◌, ◌<◌, ◌⊎◌, ◌^◌, ℕ, ◌+◌, ◌*◌, ◌/◌, ◌-◌, min, Result, Ok, Err, List, [], ◌∷◌, ◌++◌, length, take, drop, slice_index}
+use Rattle.std.specs.Prelude.{◌≡◌, ◌≢◌, ◌<◌, ◌≤◌, ◌⊎◌, ◌^◌, ℕ, ◌+◌, ◌*◌, ◌/◌, ◌-◌, min, Result, Ok, Err, List, [], ◌∷◌, ◌++◌, length, take, drop, slice_index}
 use Rattle.den_model.specs.Spelling.{u64_word}
 use Rattle.den_model.specs.Reading.{size_at}
 use Rattle.den_model.specs.Regions.{Region, regions, open_region, open_regions}
@@ -57,3 +57,8 @@ room_for end size = min (whole_chunks (end + 10 + size)) (2 ^ 64 - 1)
 -- a file has not the room for a region behind the end with the gate after it
 abbrev pub IsShort : List ℕ → ℕ → ℕ → Type 0
 IsShort file end size = length file < end + 10 + size
+
+-- a file that was short of this room is as long as it now, and one that was not is as long as before
+pub record Grows (old new : List ℕ) (end size : ℕ) : Type 0 where
+  pub grown : IsShort old end size → length new ≡ room_for end size
+  pub kept : end + 10 + size ≤ length old → length new ≡ length old

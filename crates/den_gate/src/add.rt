@@ -4,7 +4,7 @@ ghost use Rattle.std.specs.Prelude.{◌≡◌, ◌+◌, ◌≤◌, ◌<◌, ◌^
 ghost use Rattle.den_disk.specs.Crash.{Stays};
 ghost use Rattle.den_disk.specs.Goes.{HasCause, Rose};
 ghost use Rattle.den_gate.specs.Causes.{Because};
-ghost use Rattle.den_gate.specs.Slot.{IsShort, payloads_of, room_for};
+ghost use Rattle.den_gate.specs.Slot.{Grows, IsShort, payloads_of, room_for};
 ghost use Rattle.den_gate.specs.Steps.{IsOpen, IsStaged, RunKeeps, RunKeepsOrAdds};
 
 use crate::GateError;
@@ -20,6 +20,7 @@ pub fn add<D: Disk>(disk: &mut D, slot: Place, end: u64, payload: &[u8]) -> Resu
     ensures end { OnOk result (end + (9 + length payload.now) ≤ 2 ^ 62) }
     ensures open { IsTrue (D.kind disk.old).tells → (list : List (List ℕ)) → IsOpen slot list end (D.content disk.old) → OnOk result (
         IsOpen slot (list ++ payload.now ∷ []) (end + (9 + length payload.now)) (D.content disk.new)) }
+    ensures grows { IsTrue (D.kind disk.old).tells → OnOk result (Grows ((D.content disk.old).reading slot) ((D.content disk.new).reading slot) end (length payload.now)) }
     ensures run { IsTrue (D.kind disk.old).tells → (list : List (List ℕ)) → IsOpen slot list end (D.content disk.old)
         → RunKeepsOrAdds D.content D.moment D.images slot list payload.now disk.old disk.new }
     ensures refused { IfErr result (Because ⊥ (Rose (D.faults disk.old) (D.faults disk.new)) (λ needed limit.
@@ -42,6 +43,7 @@ fn stage<D: Disk>(disk: &mut D, slot: Place, end: u64, payload: &[u8]) -> Result
     ensures kind { D.kind disk.new ≡ D.kind disk.old }
     ensures staged { IsTrue (D.kind disk.old).tells → (list : List (List ℕ)) → IsOpen slot list end (D.content disk.old) → OnOk result (
         IsStaged slot list payload.now end (D.content disk.new)) }
+    ensures long { IsTrue (D.kind disk.old).tells → OnOk result (length ((D.content disk.new).reading slot) ≡ length ((D.content disk.old).reading slot)) }
     ensures run { IsTrue (D.kind disk.old).tells → (list : List (List ℕ)) → IsOpen slot list end (D.content disk.old)
         → RunKeeps D.content D.moment D.images slot list disk.old disk.new }
     ensures cause { HasCause (D.faults disk.old) (D.faults disk.new) (IsErr result) }
@@ -59,6 +61,7 @@ fn open_gate<D: Disk>(disk: &mut D, slot: Place, end: u64) -> Result<(), DiskFau
     ensures kind { D.kind disk.new ≡ D.kind disk.old }
     ensures open { IsTrue (D.kind disk.old).tells → (list : List (List ℕ)) → (payload : List ℕ) → IsStaged slot list payload end (D.content disk.old) → OnOk result (
         IsOpen slot (list ++ payload ∷ []) (end + (9 + length payload)) (D.content disk.new)) }
+    ensures long { IsTrue (D.kind disk.old).tells → OnOk result (length ((D.content disk.new).reading slot) ≡ length ((D.content disk.old).reading slot)) }
     ensures run { IsTrue (D.kind disk.old).tells → (list : List (List ℕ)) → (payload : List ℕ) → IsStaged slot list payload end (D.content disk.old)
         → RunKeepsOrAdds D.content D.moment D.images slot list payload disk.old disk.new }
     ensures cause { HasCause (D.faults disk.old) (D.faults disk.new) (IsErr result) }

@@ -29,7 +29,7 @@ impl GateFile {
     ghost use Rattle.den_model.specs.Regions.{regions};
     ghost use Rattle.den_model.specs.Image.{slot_of};
     ghost use Rattle.den_gate.specs.Causes.{Because};
-    ghost use Rattle.den_gate.specs.Slot.{IsShort, room_for};
+    ghost use Rattle.den_gate.specs.Slot.{Grows, IsShort, room_for};
     ghost use Rattle.den_gate.specs.Steps.{Keeps, KeepsOrAdds, Spares};
     ghost use Rattle.den_gate.specs.Gate.{payloads, IsAtRest, IsCurrent, KeepsFamily, KeepsOrAddsFamily};
     ghost use Rattle.den_gate.specs.Loading.{IsDurable};
@@ -98,6 +98,7 @@ impl GateFile {
         ensures at_rest { IsTrue (D.kind disk.old).tells → OnOk result (IsAtRest self.new (D.content disk.new)) }
         ensures same { IsTrue (D.kind disk.old).tells → OnOk result (payloads self.new (D.content disk.new).reading ≡ payloads self.old (D.content disk.old).reading) }
         ensures room { IsTrue (D.kind disk.old).tells → OnOk result (IsShort ((D.content disk.new).reading self.old.slot) self.old.end bytes → ⊥) }
+        ensures grows { IsTrue (D.kind disk.old).tells → OnOk result (Grows ((D.content disk.old).reading self.old.slot) ((D.content disk.new).reading self.old.slot) self.old.end bytes) }
 
         // At each moment of the call, whatever comes of it, a crash leaves the list and nothing new in the other files.
         ensures any_moment { IsTrue (D.kind disk.old).tells → Leaves D.content D.moment D.images
@@ -136,6 +137,8 @@ impl GateFile {
         ensures at_rest { IsTrue (D.kind disk.old).tells → OnOk result (IsAtRest self.new (D.content disk.new)) }
         ensures appended { IsTrue (D.kind disk.old).tells → OnOk result (
             payloads self.new (D.content disk.new).reading ≡ payloads self.old (D.content disk.old).reading ++ payload.now ∷ []) }
+        ensures grows { IsTrue (D.kind disk.old).tells → OnOk result (
+            Grows ((D.content disk.old).reading self.old.slot) ((D.content disk.new).reading self.old.slot) self.old.end (length payload.now)) }
 
         // At each moment of the call, whatever comes of it, a crash leaves the list from before it, with the payload or
         // without, and nothing new in the other files.

@@ -1,5 +1,27 @@
 //! Gate files over a disk: each family a list of payloads that grows by one at a time, and that a crash leaves as it was
 //! or as it was to become.
+//!
+//! A family has a head and two slots; the head's first byte names the slot in use. A slot is a row of regions: a gate of
+//! one byte, eight bytes of length, a payload. The list is the payloads of the regions whose gates are open (1), up to the
+//! first gate that is not open, or the slot's end. docs/FORMATS.md has the bytes.
+//!
+//! What holds between calls, and which clauses say so:
+//!
+//! 1. The slot's regions are the list and end where the gate file says, with a closed gate or the slot's end behind them,
+//!    and nothing of the slot is pending: `at_rest` of `load`, `reserve` and `append`.
+//! 2. The head names the slot, and nothing of the head is pending: `current` of the same calls.
+//! 3. A region is written behind a closed gate, with a closed gate behind it, and its gate is opened after a sync alone. So
+//!    a crash at any moment leaves the list, with the new payload or without it: `any_moment` and `family` of `append`; of
+//!    `reserve` they say that it leaves the list.
+//! 4. A call on one slot leaves all other files as a crash before it might have left them: `spares`, `others`, `images`.
+//! 5. A slot that is too short for a region and the gate behind it grows to the least multiple of 65,536 that holds them, and
+//!    no further: `grows`. Where that passes the disk's limit nothing is changed: `refused`, `not_full`.
+//! 6. Calls that read change nothing: `stays` of `regions`, `disk` of `reader` and of `RegionReader::next`.
+//! 7. What was refused may have left a slot that is not at rest: `failed` of `reserve`, `append` and `flush`, which ask for
+//!    `ready`. The gate file is loaded anew then.
+//!
+//! `GateFile::load` finds the list after a sync; `GateFile::reader` and `RegionReader::next` read it, one payload a call into
+//! a buffer that is used again, and `regions` as a whole; `append` adds to it, `reserve` makes room before.
 #![tactic(auto)]
 
 mod add;

@@ -1,6 +1,7 @@
-use Rattle.std.proofs.Common.{◌+◌, [], ◌∷◌, ◌++◌, IsTrue, length, sym, ◌∙◌, ap, subst}
+use Rattle.std.proofs.Common.{◌+◌, ◌≤◌, [], ◌∷◌, ◌++◌, IsTrue, length, sym, ◌∙◌, ap, subst, arith}
 use Rattle.std.proofs.lemmas.Result.{on_ok_weaker}
-use Rattle.den_disk.specs.Files.{Files, synced}
+use Rattle.den_disk.specs.Files.{Files, Content, synced}
+use Rattle.den_disk.proofs.Images.{length-written}
 use Rattle.den_gate.specs.Steps.{IsOpen}
 use Rattle.den_gate.proofs.Calm.{opened}
 use Rattle.den_gate.proofs.Runs.{ran_opens, ran_opened, ran_adds}
@@ -42,3 +43,12 @@ returns-clause-open g c = λ tells ps p staged.
     on_ok_weaker c.sync.result
     (λ done. subst (λ k. IsOpen c.args.slot (ps ++ p ∷ []) (c.args.end + (9 + length p)) k) (sym (done.0 ∙ ap synced ((c.in_ok-write_at.ensures.writes tells).ok).0)) (opened c.args.slot ps p c.args.end (g.D.Disk.content c.args.disk.now) staged))
     (c.sync.ensures.syncs tells1).ok
+
+pub returns-clause-long : goal.returns-clause-long
+returns-clause-long g c = λ tells.
+    let d0 = g.D.Disk.content c.args.disk.now in
+    let d1 = g.D.Disk.content c.write_at.new.self in
+    let tells1 = subst (λ k. IsTrue k.tells) (sym c.write_at.ensures.kind) tells in
+    let room : c.args.end + 1 ≤ length (d0.reading c.args.slot) = omega (arith, c.requires tells) in
+    let long = length-written c.args.slot c.args.end (1 ∷ []) d0 d1 room ((c.in_ok-write_at.ensures.writes tells).ok).0 in
+    on_ok_weaker c.sync.result (λ done. ap (λ (k : Content). length (k.reading c.args.slot)) done.0 ∙ long) (c.sync.ensures.syncs tells1).ok

@@ -139,3 +139,25 @@ returns-clause-staged g c = λ tells ps open_.
     on_ok_weaker c.sync.result
     (λ done. subst (λ (k : Content). IsStaged slot ps p end k) (sym (done.0 ∙ ap synced three)) after)
     (c.sync.ensures.syncs tells3).ok
+
+pub returns-clause-long : goal.returns-clause-long
+returns-clause-long g c = λ tells.
+    let content = g.D.Disk.content in
+    let slot = c.args.slot in
+    let end = c.args.end in
+    let n = length c.args.payload.now in
+    let d0 = content c.args.disk.now in
+    let d1 = content c.write_at.new.self in
+    let d2 = content c.write_at-2.new.self in
+    let d3 = content c.write_at-3.new.self in
+    let tells1 = subst (λ k. IsTrue k.tells) (sym c.write_at.ensures.kind) tells in
+    let tells2 = subst (λ k. IsTrue k.tells) (sym c.write_at-2.ensures.kind) tells1 in
+    let tells3 = subst (λ k. IsTrue k.tells) (sym c.write_at-3.ensures.kind) tells2 in
+    let field : length c.to_be_bytes.result ≡ 8 = ap length (word-is n c.to_be_bytes.result c.to_be_bytes.ensures) ∙ length-word n in
+    let room1 : end + 1 + length c.to_be_bytes.result ≤ length (d0.reading slot) = omega (arith, c.requires.room tells) in
+    let long1 = length-written slot (end + 1) c.to_be_bytes.result d0 d1 room1 ((c.in_ok-write_at.ensures.writes tells).ok).0 in
+    let room2 : end + 9 + n ≤ length (d1.reading slot) = omega (arith, c.requires.room tells) in
+    let long2 = length-written slot (end + 9) c.args.payload.now d1 d2 room2 ((c.in_ok-write_at-2.ensures.writes tells1).ok).0 in
+    let room3 : end + 9 + n + 1 ≤ length (d2.reading slot) = omega (arith, c.requires.room tells) in
+    let long3 = length-written slot (end + 9 + n) (0 ∷ []) d2 d3 room3 ((c.in_ok-write_at-3.ensures.writes tells2).ok).0 in
+    on_ok_weaker c.sync.result (λ done. ap (λ (k : Content). length (k.reading slot)) done.0 ∙ long3 ∙ long2 ∙ long1) (c.sync.ensures.syncs tells3).ok
