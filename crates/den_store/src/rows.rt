@@ -1,12 +1,11 @@
-//! Worked rows: a log from its bytes, edits of it, and random edits beside a plain list of pairs.
-ghost use Rattle.std.specs.Prelude.{◌≡◌, ◌<◌, IsTrue, IfSome, IfOk, OnOk};
+//! Worked rows: a log from its bytes, edits of it, and drawn edits beside a plain list of pairs.
+ghost use Rattle.std.specs.Prelude.{◌≡◌, ◌<◌, ◌+◌, true, IsTrue, IfSome, OnOk};
+ghost use Rattle.den_model.specs.Entries.{rise_from};
 ghost use Rattle.den_model.specs.Log.{floor};
 ghost use Rattle.den_journal.specs.Writes.{Stands};
-ghost use Rattle.den_store.specs.FileLog.{log_shown};
-ghost use Rattle.den_store.specs.FileMeta.{meta_shown};
 
-use crate::{FileLogStore, FileStorageEngine, LogStore, MetaStore, StorageEngine};
-use den_codec::{Command, Entry, HardState, Label, LogId, Rows, VotedFor};
+use crate::{FileLogStore, FileMetaStore, FileStorageEngine, LogStore, MetaStore, StorageEngine};
+use den_codec::{Command, Entry, HardState, Label, LogId, VotedFor};
 use den_disk::{Disk, Family, MemDisk, Part, Place};
 use den_model::rise_from;
 use std::alloc::Global;
@@ -19,18 +18,59 @@ const NOOP_LOG: &[u8] =
 const CLOSED_LOG: &[u8] =
     b"\x07\0\0\0\0\0\0\0\x22\x01\0\0\0\0\0\0\0\x01\0\0\0\0\0\0\0\x01\0\0\0\0\0\0\0\x01\0\0\0\0\0\0\x03\xe8\0\0";
 
-// An entry without effect at moment 1000. There is none of index 0.
-fn entry_of(pair: (u64, u64)) -> Entry {
-    let index = if pair.0 == 0 { 1 } else { pair.0 };
-    Entry::of(index, pair.1, 1000, Command::Noop)
+// Entries without effect at moment 1000: so many from an index on, each so far above the one before.
+#[derive(Clone, Copy, Debug)]
+struct Run {
+    from: u64,
+    count: u64,
+    step: u64,
+    term: u64,
 }
 
-fn entries_of(alloc: Global, pairs: &[(u64, u64)]) -> Result<Vec<Entry>, Fail> {
-    let mut entries = Vec::new(alloc);
-    for pair in pairs {
-        entries.push(entry_of(*pair))?;
+const NOTHING: Run = Run {
+    from: 1,
+    count: 0,
+    step: 1,
+    term: 0,
+};
+
+fn run_of(from: u64, count: u64, term: u64) -> Run {
+    Run {
+        from,
+        count,
+        step: 1,
+        term,
     }
-    Ok(entries)
+}
+
+impl Run {
+    fn pairs(self, alloc: Global) -> Result<Vec<(u64, u64)>, Fail> {
+        let mut pairs = Vec::new(alloc);
+        for at in 0..self.count {
+            let index = self.from.saturating_add(at.saturating_mul(self.step));
+            pairs.push((index, self.term))?;
+        }
+        Ok(pairs)
+    }
+
+    // There is no entry of index 0.
+    fn entries(self, alloc: Global) -> Result<Vec<Entry>, Fail> {
+        let mut entries = Vec::new(alloc);
+        for pair in self.pairs(alloc)? {
+            let index = if pair.0 == 0 { 1 } else { pair.0 };
+            entries.push(Entry::of(index, pair.1, 1000, Command::Noop))?;
+        }
+        Ok(entries)
+    }
+}
+
+#[derive(Clone, Copy, Debug)]
+enum Edit {
+    Persist(Run),
+    Purge(LogId),
+    Truncate(u64),
+    Replace(u64, Run),
+    Reset,
 }
 
 // A log as pairs of an index and a term, written anew and plainly.
@@ -41,13 +81,6 @@ struct Plain {
 }
 
 impl Plain {
-    fn of(alloc: Global, boundary: Option<LogId>, pairs: &[(u64, u64)]) -> Result<Plain, Fail> {
-        Ok(Plain {
-            boundary,
-            pairs: pairs.to_vec(alloc)?,
-        })
-    }
-
     fn floor(&self) -> u64 {
         match self.boundary {
             None => 0,
@@ -62,279 +95,168 @@ impl Plain {
         }
     }
 
-    fn entry(&self, index: u64) -> Option<Entry> {
-        for pair in self.pairs.as_slice() {
-            if pair.0 == index {
-                return Some(entry_of(*pair));
-            }
-        }
-        None
-    }
-
-    fn between(&self, alloc: Global, first: u64, last: u64) -> Result<Vec<Entry>, Fail> {
-        let mut entries = Vec::new(alloc);
-        for pair in self.pairs.as_slice() {
-            if first <= pair.0 && pair.0 <= last {
-                entries.push(entry_of(*pair))?;
-            }
-        }
-        Ok(entries)
-    }
-
-    fn cut(&mut self, from: u64) {
+    fn replace(&mut self, alloc: Global, from: u64, run: Run) -> Result<(), Fail> {
         self.pairs.retain(|pair| pair.0 < from);
-    }
-
-    fn replace(&mut self, from: u64, pairs: &[(u64, u64)]) -> Result<(), Fail> {
-        self.cut(from);
-        self.pairs.extend_from_slice(pairs)?;
+        self.pairs.extend_from_slice(run.pairs(alloc)?.as_slice())?;
         Ok(())
     }
 
-    fn make(&mut self, edit: &Edit) -> Result<(), Fail> {
+    fn purge(&mut self, cutoff: LogId) {
+        if self.floor() < cutoff.index {
+            self.pairs.retain(|pair| cutoff.index < pair.0);
+            self.boundary = Some(cutoff);
+        }
+    }
+
+    fn make(&mut self, alloc: Global, edit: Edit) -> Result<(), Fail> {
         match edit {
-            Edit::Persist(pairs) => match pairs.as_slice() {
-                [] => Ok(()),
-                [first, ..] => self.replace(first.0, pairs.as_slice()),
-            },
-            Edit::Purge(cutoff) => {
-                if self.floor() < cutoff.index {
-                    self.pairs.retain(|pair| cutoff.index < pair.0);
-                    self.boundary = Some(*cutoff);
-                }
-                Ok(())
-            }
-            Edit::Truncate(from) => {
-                self.cut(*from);
-                Ok(())
-            }
-            Edit::Replace(from, pairs) => self.replace(*from, pairs.as_slice()),
+            Edit::Persist(run) if run.count == 0 => {}
+            Edit::Persist(run) => self.replace(alloc, run.from, run)?,
+            Edit::Purge(cutoff) => self.purge(cutoff),
+            Edit::Truncate(from) => self.replace(alloc, from, NOTHING)?,
+            Edit::Replace(from, run) => self.replace(alloc, from, run)?,
             Edit::Reset => {
                 self.pairs.clear();
                 self.boundary = None;
-                Ok(())
             }
         }
+        Ok(())
+    }
+
+    fn between(&self, alloc: Global, first: u64, last: u64) -> Result<Vec<(u64, u64)>, Fail> {
+        let mut pairs = Vec::new(alloc);
+        for pair in self.pairs.as_slice() {
+            if first <= pair.0 && pair.0 <= last {
+                pairs.push(*pair)?;
+            }
+        }
+        Ok(pairs)
     }
 }
 
-#[derive(Debug, Drop)]
-enum Edit {
-    Persist(Vec<(u64, u64)>),
-    Purge(LogId),
-    Truncate(u64),
-    Replace(u64, Vec<(u64, u64)>),
-    Reset,
-}
-
-// A store with its disk, as its last call left them.
-#[derive(Drop)]
-struct Bench {
+// Makes one edit, which the log has to admit. It is proved for any store and disk, where its goals are small.
+fn make<D: Disk, G: LogStore<D>>(
+    log: &mut G,
+    disk: &mut D,
     alloc: Global,
-    disk: MemDisk,
-    store: FileLogStore,
+    edit: Edit,
+) -> Result<(), Fail>
+    requires stands { Stands D.Disk (G.shown log.old) disk.old }
+    ensures stands { OnOk result (Stands D.Disk (G.shown log.new) disk.new) }
+{
+    match edit {
+        Edit::Persist(run) => persist(log, disk, run.entries(alloc)?.as_slice()),
+        Edit::Purge(cutoff) => Ok(log.purge(disk, cutoff)?),
+        Edit::Truncate(from) => Ok(log.truncate(disk, from)?),
+        Edit::Replace(from, run) => replace(log, disk, from, run.entries(alloc)?.as_slice()),
+        Edit::Reset => Ok(log.reset(disk)?),
+    }
 }
 
-fn floor_of(store: &FileLogStore) -> u64
-    ensures { result ≡ floor (log_shown store.now).value }
+fn persist<D: Disk, G: LogStore<D>>(
+    log: &mut G,
+    disk: &mut D,
+    entries: &[Entry],
+) -> Result<(), Fail>
+    requires stands { Stands D.Disk (G.shown log.old) disk.old }
+    ensures stands { OnOk result (Stands D.Disk (G.shown log.new) disk.new) }
 {
-    match LogStore::<MemDisk>::load_purge_boundary(store) {
+    if !is_above::<D, G>(log, entries) {
+        return Err("no entries above the boundary")?;
+    }
+    Ok(log.persist_entries(disk, entries)?)
+}
+
+fn replace<D: Disk, G: LogStore<D>>(
+    log: &mut G,
+    disk: &mut D,
+    from: u64,
+    entries: &[Entry],
+) -> Result<(), Fail>
+    requires stands { Stands D.Disk (G.shown log.old) disk.old }
+    ensures stands { OnOk result (Stands D.Disk (G.shown log.new) disk.new) }
+{
+    if !begins_above::<D, G>(log, from) || !rise_from(from, entries) {
+        return Err("no entries above the boundary")?;
+    }
+    Ok(log.replace_range(disk, from, entries)?)
+}
+
+fn is_above<D: Disk, G: LogStore<D>>(log: &G, entries: &[Entry]) -> bool
+    ensures { IsTrue result → rise_from (floor (G.shown log.now).value + 1) entries.now ≡ true }
+{
+    let floor = match log.load_purge_boundary() {
         None => 0,
         Some(boundary) => boundary.index,
-    }
+    };
+    floor < u64::MAX && rise_from(floor + 1, entries)
 }
 
-// Whether there is no boundary, or it is below this index.
-fn is_above(store: &FileLogStore, from: u64) -> bool
-    ensures { IsTrue result → IfSome (log_shown store.now).value.boundary (λ b. b.index < from) }
+fn begins_above<D: Disk, G: LogStore<D>>(log: &G, from: u64) -> bool
+    ensures { IsTrue result → IfSome (G.shown log.now).value.boundary (λ b. b.index < from) }
 {
-    match LogStore::<MemDisk>::load_purge_boundary(store) {
+    match log.load_purge_boundary() {
         None => true,
         Some(boundary) => boundary.index < from,
     }
 }
 
-// Adds entries, which have to rise above the boundary.
-fn persist(disk: &mut MemDisk, store: &mut FileLogStore, entries: &[Entry]) -> Result<(), Fail>
-    requires ready { (log_shown store.old).ready }
-    requires rests { (log_shown store.old).rests (⟦<MemDisk as Disk>⟧.content disk.old) }
-    ensures ready { OnOk result (log_shown store.new).ready }
-    ensures rests { OnOk result ((log_shown store.new).rests (⟦<MemDisk as Disk>⟧.content disk.new)) }
-{
-    let from = floor_of(store).checked_add(1).ok_or("a great floor")?;
-    if !rise_from(from, entries) {
-        return Err("no rising entries")?;
+fn pairs_of<D: Disk, G: LogStore<D>>(
+    log: &G,
+    alloc: Global,
+    first: u64,
+    last: u64,
+) -> Result<Vec<(u64, u64)>, Fail> {
+    let mut pairs = Vec::new(alloc);
+    for entry in log.get_entries(first, last)?.as_slice() {
+        pairs.push((entry.index(), entry.term()))?;
     }
-    store.persist_entries(disk, entries)?;
-    Ok(())
+    Ok(pairs)
 }
 
-impl Bench {
-    fn open(alloc: Global, mut disk: MemDisk) -> Result<Bench, Fail>
-        ensures ready { IfOk result (λ b. (log_shown b.store).ready) }
-        ensures rests { IfOk result (λ b. (log_shown b.store).rests (⟦<MemDisk as Disk>⟧.content b.disk)) }
-    {
-        let store = FileLogStore::new(alloc, &mut disk)?;
-        Ok(Bench { alloc, disk, store })
+// Whether it lists what a plain log lists from one index up to another, and has the first of these where that has it.
+fn lists<D: Disk, G: LogStore<D>>(
+    log: &G,
+    alloc: Global,
+    plain: &Plain,
+    first: u64,
+    last: u64,
+) -> Result<bool, Fail> {
+    let wanted = plain.between(alloc, first, last)?;
+    if pairs_of::<D, G>(log, alloc, first, last)?.as_slice() != wanted.as_slice() {
+        return Ok(false);
     }
+    let one = plain.between(alloc, first, first)?;
+    match log.entry(first)? {
+        None => Ok(one.is_empty()),
+        Some(entry) => Ok(one.as_slice() == [(entry.index(), entry.term())].as_slice()),
+    }
+}
 
-    fn reopened(self) -> Result<Bench, Fail>
-        ensures ready { IfOk result (λ b. (log_shown b.store).ready) }
-        ensures rests { IfOk result (λ b. (log_shown b.store).rests (⟦<MemDisk as Disk>⟧.content b.disk)) }
-    {
-        Bench::open(self.alloc, self.disk)
+// Whether it answers what a plain log answers.
+fn answers<D: Disk, G: LogStore<D>>(log: &G, alloc: Global, plain: &Plain) -> Result<bool, Fail> {
+    let last = plain.last_index();
+    if log.last_index() != last || log.load_purge_boundary() != plain.boundary {
+        return Ok(false);
     }
+    Ok(
+        lists::<D, G>(log, alloc, plain, 0, u64::MAX)?
+            && lists::<D, G>(log, alloc, plain, last.saturating_sub(3), last)?
+            && lists::<D, G>(log, alloc, plain, plain.floor(), last.saturating_sub(1))?,
+    )
+}
 
-    // Opened anew after each tenth turn.
-    fn rested(self, turn: u64) -> Result<Bench, Fail>
-        requires ready { (log_shown self.store).ready }
-        requires rests { (log_shown self.store).rests (⟦<MemDisk as Disk>⟧.content self.disk) }
-        ensures ready { IfOk result (λ b. (log_shown b.store).ready) }
-        ensures rests { IfOk result (λ b. (log_shown b.store).rests (⟦<MemDisk as Disk>⟧.content b.disk)) }
-    {
-        if turn % 10 == 0 {
-            return self.reopened();
-        }
-        Ok(self)
-    }
-
-    fn persist(self, pairs: &[(u64, u64)]) -> Result<Bench, Fail>
-        requires ready { (log_shown self.store).ready }
-        requires rests { (log_shown self.store).rests (⟦<MemDisk as Disk>⟧.content self.disk) }
-        ensures ready { IfOk result (λ b. (log_shown b.store).ready) }
-        ensures rests { IfOk result (λ b. (log_shown b.store).rests (⟦<MemDisk as Disk>⟧.content b.disk)) }
-    {
-        let Bench {
-            alloc,
-            mut disk,
-            mut store,
-        } = self;
-        let entries = entries_of(alloc, pairs)?;
-        persist(&mut disk, &mut store, entries.as_slice())?;
-        Ok(Bench { alloc, disk, store })
-    }
-
-    fn replace(self, from: u64, pairs: &[(u64, u64)]) -> Result<Bench, Fail>
-        requires ready { (log_shown self.store).ready }
-        requires rests { (log_shown self.store).rests (⟦<MemDisk as Disk>⟧.content self.disk) }
-        ensures ready { IfOk result (λ b. (log_shown b.store).ready) }
-        ensures rests { IfOk result (λ b. (log_shown b.store).rests (⟦<MemDisk as Disk>⟧.content b.disk)) }
-    {
-        let Bench {
-            alloc,
-            mut disk,
-            mut store,
-        } = self;
-        let entries = entries_of(alloc, pairs)?;
-        if !is_above(&store, from) || !rise_from(from, entries.as_slice()) {
-            return Err("no rising entries")?;
-        }
-        store.replace_range(&mut disk, from, entries.as_slice())?;
-        Ok(Bench { alloc, disk, store })
-    }
-
-    fn purge(self, cutoff: LogId) -> Result<Bench, Fail>
-        requires ready { (log_shown self.store).ready }
-        requires rests { (log_shown self.store).rests (⟦<MemDisk as Disk>⟧.content self.disk) }
-        ensures ready { IfOk result (λ b. (log_shown b.store).ready) }
-        ensures rests { IfOk result (λ b. (log_shown b.store).rests (⟦<MemDisk as Disk>⟧.content b.disk)) }
-    {
-        let Bench {
-            alloc,
-            mut disk,
-            mut store,
-        } = self;
-        store.purge(&mut disk, cutoff)?;
-        Ok(Bench { alloc, disk, store })
-    }
-
-    fn truncate(self, from: u64) -> Result<Bench, Fail>
-        requires ready { (log_shown self.store).ready }
-        requires rests { (log_shown self.store).rests (⟦<MemDisk as Disk>⟧.content self.disk) }
-        ensures ready { IfOk result (λ b. (log_shown b.store).ready) }
-        ensures rests { IfOk result (λ b. (log_shown b.store).rests (⟦<MemDisk as Disk>⟧.content b.disk)) }
-    {
-        let Bench {
-            alloc,
-            mut disk,
-            mut store,
-        } = self;
-        store.truncate(&mut disk, from)?;
-        Ok(Bench { alloc, disk, store })
-    }
-
-    fn reset(self) -> Result<Bench, Fail>
-        requires ready { (log_shown self.store).ready }
-        requires rests { (log_shown self.store).rests (⟦<MemDisk as Disk>⟧.content self.disk) }
-        ensures ready { IfOk result (λ b. (log_shown b.store).ready) }
-        ensures rests { IfOk result (λ b. (log_shown b.store).rests (⟦<MemDisk as Disk>⟧.content b.disk)) }
-    {
-        let Bench {
-            alloc,
-            mut disk,
-            mut store,
-        } = self;
-        store.reset(&mut disk)?;
-        Ok(Bench { alloc, disk, store })
-    }
-
-    fn make(self, edit: &Edit) -> Result<Bench, Fail>
-        requires ready { (log_shown self.store).ready }
-        requires rests { (log_shown self.store).rests (⟦<MemDisk as Disk>⟧.content self.disk) }
-        ensures ready { IfOk result (λ b. (log_shown b.store).ready) }
-        ensures rests { IfOk result (λ b. (log_shown b.store).rests (⟦<MemDisk as Disk>⟧.content b.disk)) }
-    {
-        match edit {
-            Edit::Persist(pairs) => self.persist(pairs.as_slice()),
-            Edit::Purge(cutoff) => self.purge(*cutoff),
-            Edit::Truncate(from) => self.truncate(*from),
-            Edit::Replace(from, pairs) => self.replace(*from, pairs.as_slice()),
-            Edit::Reset => self.reset(),
-        }
-    }
-
-    fn last_index(&self) -> u64 {
-        LogStore::<MemDisk>::last_index(&self.store)
-    }
-
-    fn entry(&self, index: u64) -> Result<Option<Entry>, Fail> {
-        Ok(LogStore::<MemDisk>::entry(&self.store, index)?)
-    }
-
-    fn between(&self, first: u64, last: u64) -> Result<Rows<Entry>, Fail> {
-        Ok(LogStore::<MemDisk>::get_entries(&self.store, first, last)?)
-    }
-
-    fn boundary(&self) -> Option<LogId> {
-        LogStore::<MemDisk>::load_purge_boundary(&self.store)
-    }
-
-    // Whether it answers these entries from one index up to another.
-    fn lists(&self, plain: &Plain, first: u64, last: u64) -> Result<bool, Fail> {
-        let found = self.between(first, last)?;
-        Ok(found.as_slice() == plain.between(self.alloc, first, last)?.as_slice())
-    }
-
-    // Whether it answers what a plain log answers, at indices up to a little above the last one.
-    fn answers(&self, plain: &Plain) -> Result<bool, Fail> {
-        let last = plain.last_index();
-        if self.last_index() != last || self.boundary() != plain.boundary {
-            return Ok(false);
-        }
-        let start = last.saturating_sub(40);
-        for step in 0..44 {
-            let index = start.saturating_add(step);
-            if self.entry(index)? != plain.entry(index) {
-                return Ok(false);
-            }
-        }
-        Ok(
-            self.lists(plain, 0, u64::MAX)?
-                && self.lists(plain, last.saturating_sub(5), last)?
-                && self.lists(plain, start, last.saturating_sub(3))?
-                && self.lists(plain, last, start)?,
-        )
-    }
+// The log of the disk, opened anew and edited twice.
+fn edited(
+    alloc: Global,
+    disk: &mut MemDisk,
+    first: Edit,
+    second: Edit,
+) -> Result<FileLogStore, Fail> {
+    let mut log = FileLogStore::new(alloc, disk)?;
+    make(&mut log, disk, alloc, first)?;
+    make(&mut log, disk, alloc, second)?;
+    Ok(log)
 }
 
 // Numbers that follow from a seed.
@@ -344,41 +266,39 @@ struct Draws {
 }
 
 impl Draws {
-    fn next(&mut self) -> u64 {
+    fn below(&mut self, bound: u64) -> u64 {
         self.state = self
             .state
             .wrapping_mul(6_364_136_223_846_793_005)
             .wrapping_add(1_442_695_040_888_963_407);
-        self.state >> 33
+        (self.state >> 33).checked_rem(bound).unwrap_or(0)
     }
 
-    // Up to three pairs whose indices rise from this one on.
-    fn pairs(&mut self, alloc: Global, from: u64) -> Result<Vec<(u64, u64)>, Fail> {
-        let mut pairs = Vec::new(alloc);
-        let mut index = from;
-        for _ in 0..self.next() % 4 {
-            index = index.saturating_add(self.next() % 2);
-            pairs.push((index, self.next() % 5))?;
-            index = index.saturating_add(1);
+    // Up to three entries from an index on.
+    fn run(&mut self, from: u64) -> Run {
+        Run {
+            from: from.saturating_add(self.below(2)),
+            count: self.below(4),
+            step: self.below(2).saturating_add(1),
+            term: self.below(5),
         }
-        Ok(pairs)
     }
 
     // An edit that a log with this floor admits.
-    fn edit(&mut self, alloc: Global, floor: u64) -> Result<Edit, Fail> {
-        let from = floor.saturating_add(1 + self.next() % 12);
-        let near = floor.saturating_add(self.next() % 6).saturating_sub(1);
-        Ok(match self.next() % 16 {
+    fn edit(&mut self, floor: u64) -> Edit {
+        let from = floor.saturating_add(1).saturating_add(self.below(12));
+        let near = floor.saturating_add(self.below(6)).saturating_sub(1);
+        match self.below(16) {
             0 => Edit::Reset,
             1..4 => Edit::Purge(LogId {
                 index: near,
-                term: self.next() % 5,
+                term: self.below(5),
             }),
             4..6 => Edit::Truncate(from),
             6 => Edit::Truncate(near),
-            7..11 => Edit::Replace(from, self.pairs(alloc, from)?),
-            _ => Edit::Persist(self.pairs(alloc, from)?),
-        })
+            7..11 => Edit::Replace(from, self.run(from)),
+            _ => Edit::Persist(self.run(from)),
+        }
     }
 }
 
@@ -393,120 +313,157 @@ const HEAD: Place = Place {
 };
 
 // The log in these bytes of slot a.
-fn opened(alloc: Global, slot: &[u8]) -> Result<Bench, Fail> {
+fn opened(alloc: Global, slot: &[u8]) -> Result<FileLogStore, Fail> {
     let mut disk = MemDisk::new(alloc);
     disk.set(SLOT, slot)?;
     disk.set(HEAD, &[9])?;
-    Bench::open(alloc, disk)
+    Ok(FileLogStore::new(alloc, &mut disk)?)
 }
 
 #[test]
 fn one_noop_log(rt: HostRuntime) -> Result<(), Fail> {
-    let bench = opened(rt.alloc(), NOOP_LOG)?;
+    let log = opened(rt.alloc(), NOOP_LOG)?;
     let entry = Entry::of(1, 1, 1000, Command::Noop);
-    assert_eq!(rt; bench.entry(1)?, Some(entry));
-    assert_eq!(rt; (bench.last_index(), bench.boundary()), (1, None));
-    let bench = opened(rt.alloc(), CLOSED_LOG)?;
-    assert_eq!(rt; bench.entry(1)?, None);
-    assert_eq!(rt; (bench.last_index(), bench.boundary()), (0, None));
+    assert_eq!(rt; LogStore::<MemDisk>::entry(&log, 1)?, Some(entry));
+    assert_eq!(rt; LogStore::<MemDisk>::last_index(&log), 1);
+    assert_eq!(rt; LogStore::<MemDisk>::load_purge_boundary(&log), None);
+    let log = opened(rt.alloc(), CLOSED_LOG)?;
+    assert_eq!(rt; LogStore::<MemDisk>::entry(&log, 1)?, None);
+    assert_eq!(rt; LogStore::<MemDisk>::last_index(&log), 0);
     Ok(())
 }
 
+// Each edit is made behind one that changes nothing, in memory and by its file.
 #[test]
 fn log_edits(rt: HostRuntime) -> Result<(), Fail> {
     let alloc = rt.alloc();
     let two = LogId { index: 2, term: 1 };
-    let first = [(1, 1), (2, 1), (3, 1), (4, 1), (5, 1)].to_vec(alloc)?;
-    let second = [(3, 2), (4, 2)].to_vec(alloc)?;
     let cases: [(Edit, Option<LogId>, &[(u64, u64)], u64); 5] = [
         (
-            Edit::Persist(first),
+            Edit::Persist(run_of(1, 5, 1)),
             None,
             &[(1, 1), (2, 1), (3, 1), (4, 1), (5, 1)],
             5,
         ),
         (
-            Edit::Replace(3, second),
+            Edit::Replace(3, run_of(3, 2, 2)),
             None,
             &[(1, 1), (2, 1), (3, 2), (4, 2)],
             4,
         ),
-        (
-            Edit::Replace(3, Vec::new(alloc)),
-            None,
-            &[(1, 1), (2, 1)],
-            2,
-        ),
+        (Edit::Replace(3, NOTHING), None, &[(1, 1), (2, 1)], 2),
         (Edit::Purge(two), Some(two), &[], 2),
         (Edit::Reset, None, &[], 0),
     ];
-    let mut bench = Bench::open(alloc, MemDisk::new(alloc))?;
+    let mut disk = MemDisk::new(alloc);
     for (edit, boundary, pairs, last) in cases {
-        let plain = Plain::of(alloc, boundary, pairs)?;
-        bench = bench.make(&edit)?;
-        assert!(rt; bench.answers(&plain)?, "after {edit:?}");
-        bench = bench.reopened()?;
-        assert!(rt; bench.answers(&plain)?, "opened after {edit:?}");
-        assert_eq!(rt; bench.last_index(), last);
-        assert_eq!(rt; bench.between(5, 1)?.as_slice().len(), 0);
+        let plain = Plain {
+            boundary,
+            pairs: pairs.to_vec(alloc)?,
+        };
+        let log = edited(alloc, &mut disk, Edit::Persist(NOTHING), edit)?;
+        assert!(rt;
+            answers::<MemDisk, _>(&log, alloc, &plain)?,
+            "after {edit:?}"
+        );
+        let log = FileLogStore::new(alloc, &mut disk)?;
+        assert!(rt;
+            answers::<MemDisk, _>(&log, alloc, &plain)?,
+            "opened after {edit:?}"
+        );
+        assert_eq!(rt; LogStore::<MemDisk>::last_index(&log), last);
+        assert!(rt; pairs_of::<MemDisk, _>(&log, alloc, 5, 1)?.is_empty());
     }
     Ok(())
 }
 
 #[test]
-fn random_edits(rt: HostRuntime) -> Result<(), Fail> {
+fn drawn_edits(rt: HostRuntime) -> Result<(), Fail> {
     let alloc = rt.alloc();
-    let mut bench = Bench::open(alloc, MemDisk::new(alloc))?;
-    let mut plain = Plain::of(alloc, None, &[])?;
+    let mut disk = MemDisk::new(alloc);
+    let mut plain = Plain {
+        boundary: None,
+        pairs: Vec::new(alloc),
+    };
     let mut draws = Draws { state: 1 };
-    for turn in 1..301 {
-        let edit = draws.edit(alloc, plain.floor())?;
-        plain.make(&edit)?;
-        bench = bench.make(&edit)?;
-        assert!(rt; bench.answers(&plain)?, "after edit {turn}, {edit:?}");
-        bench = bench.rested(turn)?;
-        assert!(rt; bench.answers(&plain)?, "opened after edit {turn}");
+    for turn in 0..150 {
+        let first = draws.edit(plain.floor());
+        plain.make(alloc, first)?;
+        let second = draws.edit(plain.floor());
+        plain.make(alloc, second)?;
+        let log = edited(alloc, &mut disk, first, second)?;
+        assert!(rt;
+            answers::<MemDisk, _>(&log, alloc, &plain)?,
+            "after turn {turn}, {first:?}, {second:?}"
+        );
     }
+    let log = FileLogStore::new(alloc, &mut disk)?;
+    assert!(rt;
+        answers::<MemDisk, _>(&log, alloc, &plain)?,
+        "opened at the end"
+    );
     Ok(())
 }
 
-fn engine_of(alloc: Global, disk: &mut MemDisk) -> Result<FileStorageEngine, Fail>
-    ensures log { IfOk result (λ s. Stands ⟦<MemDisk as Disk>⟧ (log_shown s.log) disk.new) }
-    ensures meta { IfOk result (λ s. Stands ⟦<MemDisk as Disk>⟧ (meta_shown s.meta) disk.new) }
+// The last calls of a log.
+fn end<D: Disk, G: LogStore<D>>(mut log: G, disk: &mut D) -> Result<(), Fail>
+    requires stands { Stands D.Disk (G.shown log) disk.old }
 {
-    Ok(FileStorageEngine::new(alloc, Label::of(alloc, "data")?, disk)?)
+    log.flush(disk)?;
+    Ok(log.close(disk)?)
 }
 
-fn flush_and_close(alloc: Global, disk: &mut MemDisk) -> Result<(), Fail> {
-    let mut log = FileLogStore::new(alloc, disk)?;
-    log.flush(disk)?;
-    log.close(disk)?;
-    Ok(())
+fn save<D: Disk, T: MetaStore<D>>(meta: &mut T, disk: &mut D, state: &HardState) -> Result<(), Fail>
+    requires stands { Stands D.Disk (T.shown meta.old) disk.old }
+{
+    meta.save_hard_state(disk, state)?;
+    Ok(meta.flush(disk)?)
+}
+
+fn ended(alloc: Global, disk: &mut MemDisk) -> Result<(), Fail> {
+    let log = FileLogStore::new(alloc, disk)?;
+    end(log, disk)
+}
+
+fn saved(alloc: Global, disk: &mut MemDisk, state: &HardState) -> Result<(), Fail> {
+    let mut meta = FileMetaStore::new(alloc, disk)?;
+    save(&mut meta, disk, state)
+}
+
+fn hard_state<T: MetaStore<MemDisk>>(meta: &T) -> Option<HardState> {
+    meta.load_hard_state()
 }
 
 #[test]
 fn engine(rt: HostRuntime) -> Result<(), Fail> {
     let alloc = rt.alloc();
-    let mut disk = MemDisk::new(alloc);
-    let mut engine = engine_of(alloc, &mut disk)?;
-    assert_eq!(rt; engine.data_dir().as_str(), "data");
-    let log = StorageEngine::<MemDisk>::log_store(&mut engine);
-    let entries = entries_of(alloc, &[(1, 3), (2, 3)])?;
-    persist(&mut disk, log, entries.as_slice())?;
-
     let state = HardState {
         current_term: 3,
         voted_for: Some(VotedFor { id: 1, term: 3 }),
     };
-    let mut engine = engine_of(alloc, &mut disk)?;
+    let mut disk = MemDisk::new(alloc);
+    let meta = FileMetaStore::new(alloc, &mut disk)?;
+    assert_eq!(rt; hard_state(&meta), None);
+    saved(alloc, &mut disk, &state)?;
+    edited(
+        alloc,
+        &mut disk,
+        Edit::Persist(run_of(1, 2, 3)),
+        Edit::Persist(NOTHING),
+    )?;
+    ended(alloc, &mut disk)?;
+    let label = Label::of(alloc, "data")?;
+    let mut engine = FileStorageEngine::new(alloc, label, &mut disk)?;
+    assert_eq!(rt; engine.data_dir().as_str(), "data");
     let meta = StorageEngine::<MemDisk>::meta_store(&mut engine);
-    assert_eq!(rt; MetaStore::<MemDisk>::load_hard_state(meta), None);
-    assert_eq!(rt; meta.save_hard_state(&mut disk, &state), Ok(()));
-
-    let (log, mut meta) = StorageEngine::<MemDisk>::split(engine_of(alloc, &mut disk)?);
-    let held = LogStore::<MemDisk>::get_entries(&log, 0, 9)?;
-    assert_eq!(rt; held.as_slice(), entries.as_slice());
-    assert_eq!(rt; MetaStore::<MemDisk>::load_hard_state(&meta), Some(state));
-    assert_eq!(rt; meta.flush(&mut disk), Ok(()));
-    flush_and_close(alloc, &mut disk)
+    assert_eq!(rt; hard_state(meta), Some(state));
+    let log = StorageEngine::<MemDisk>::log_store(&mut engine);
+    assert_eq!(rt; LogStore::<MemDisk>::last_index(log), 2);
+    let (log, meta) = StorageEngine::<MemDisk>::split(engine);
+    assert_eq!(rt;
+        pairs_of::<MemDisk, _>(&log, alloc, 0, 9)?.as_slice(),
+        [(1, 3), (2, 3)].as_slice()
+    );
+    assert_eq!(rt; hard_state(&meta), Some(state));
+    Ok(())
 }
