@@ -1,4 +1,19 @@
-//! The words of values, errors and the configuration.
+//! The words of values: how each is written as bytes and read from them. Beside them the errors and the configuration.
+//! The values are `den_model`'s, and are given on.
+//!
+//! `Word::write` appends a value's word, and appends nothing on refusal. `Word::read` answers a value exactly where the
+//! whole slice is its word: `some`, `none` of `read`. Both are proved once, from what an impl owes:
+//!
+//! 1. `put` appends the word, which fits its fields: `ok`, `fits`.
+//! 2. `take` reads what the reading of `den_model` reads, and gives the bytes behind it.
+//! 3. What is read is a word, each word is read, and what is written is a word: the laws `found`, `again`, `written`.
+//!
+//! docs/FORMATS.md has the bytes. An impl stands in this crate where its type is `den_model`'s, beside the type
+//! elsewhere.
+//!
+//!     let mut bytes = Vec::new(alloc);
+//!     entry.write(&mut bytes)?;
+//!     let again = Entry::read(alloc, bytes.as_slice())?;
 #![tactic(auto)]
 
 mod config;

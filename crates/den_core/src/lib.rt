@@ -1,4 +1,19 @@
 //! The engine over log, hard state and map, and the loop that serves frames.
+//!
+//! `recover` brings opened stores together: entries of the log above the map's mark are applied. An `Engine` then makes
+//! steps: a write becomes one entry of the log and one chunk of the map, a read asks the map. `serve` reads frames from
+//! a link (`FrameReader`), makes each one's steps, and sends what they answer. It sees of an engine what `Stepper`
+//! says.
+//!
+//! Invariants, and where each stands:
+//!
+//! 1. The map has each entry of the log, and none above its mark was purged: `IsCaughtUp` in specs/Parts.antt.
+//! 2. Files at rest stand for the engine's durable part: the law `rests_hold` of `Stepper`.
+//! 3. A step is the definition's: `state` and `answer` of `Stepper::step`. A crash inside it leaves the state after a
+//!    front of its steps: `survives`.
+//! 4. No byte of a reply is sent before its step is on the disk: `survives` of `serve`, which ties bytes sent by a
+//!    moment to the images at that moment. `early_is_refused` says that a server that sends first would not meet it.
+//! 5. The frames are those of the input, however it is cut: `found` of `FrameReader::next`.
 #![tactic(auto)]
 
 mod applying;

@@ -53,9 +53,9 @@ front_of limit [] fits = inl refl
 front_of limit (b ∷ bytes) fits = elim (cases_lt (length bytes) 7) [
   | inl few ↦ inr (inl (torn_short (b ∷ bytes) (omega arith) (omega arith), frames_short limit (b ∷ bytes) (omega arith) (omega arith)))
   | inr some ↦ elim (cases_lt (length bytes) (7 + size_at (b ∷ bytes))) [
-      | inl cut ↦ inr (inl (torn_cut (b ∷ bytes) (omega arith) (omega arith), cut_frame limit b bytes (size_at (b ∷ bytes)) refl some cut))
-      | inr whole ↦ whole_front limit b bytes fits whole
-    ]
+    | inl cut ↦ inr (inl (torn_cut (b ∷ bytes) (omega arith) (omega arith), cut_frame limit b bytes (size_at (b ∷ bytes)) refl some cut))
+    | inr whole ↦ whole_front limit b bytes fits whole
+  ]
 ]
 
 frames_none : (limit : ℕ) → frames limit [] ≡ []
@@ -71,10 +71,16 @@ cut_into limit zero bytes le fits = cut_none limit bytes (nil_from_length bytes 
 cut_into limit (suc n) bytes le fits = elim (front_of limit bytes fits) [
   | inl none ↦ cut_none limit bytes none
   | inr more ↦ elim more [
-      | inl torn ↦ subst (IsCutInto limit bytes) (sym torn.1) (inl (torn.0, refl, refl))
-      | inr whole ↦ subst (IsCutInto limit bytes) (sym (ap (frames limit) whole.3 ∙ frames_front limit whole.0 whole.1 whole.2)) (inr (whole.0, whole.1, whole.2, whole.3, refl,
-          cut_into limit n whole.1 (omega (arith, ap length whole.3, (framed_size whole.0 whole.1 whole.2).1)) (IsBytes-behind (framed whole.0) whole.1 (subst IsBytes whole.3 fits))))
-    ]
+    | inl torn ↦ subst (IsCutInto limit bytes) (sym torn.1) (inl (torn.0, refl, refl))
+    | inr whole ↦ subst (IsCutInto limit bytes) (sym (ap (frames limit) whole.3 ∙ frames_front limit whole.0 whole.1 whole.2)) (inr (
+      whole.0,
+      whole.1,
+      whole.2,
+      whole.3,
+      refl,
+      cut_into limit n whole.1 (omega (arith, ap length whole.3, (framed_size whole.0 whole.1 whole.2).1)) (IsBytes-behind (framed whole.0) whole.1 (subst IsBytes whole.3 fits)),
+    ))
+  ]
 ]
 
 -- and no other frames are
@@ -83,9 +89,9 @@ cut_is limit [] bytes fits none = ap (frames limit) none ∙ frames_none limit
 cut_is limit (f ∷ fs) bytes fits (inl torn) = elim (front_of limit bytes fits) [
   | inl none ↦ absurd (torn.0.0 none)
   | inr more ↦ elim more [
-      | inl same ↦ same.1 ∙ ap (λ l. Bad ∷ l) (sym torn.2) ∙ ap (λ g. g ∷ fs) (sym torn.1)
-      | inr whole ↦ absurd (torn.0.1 whole.0 whole.1 whole.2 whole.3)
-    ]
+    | inl same ↦ same.1 ∙ ap (λ l. Bad ∷ l) (sym torn.2) ∙ ap (λ g. g ∷ fs) (sym torn.1)
+    | inr whole ↦ absurd (torn.0.1 whole.0 whole.1 whole.2 whole.3)
+  ]
 ]
 cut_is limit (f ∷ fs) bytes fits (inr cut) =
     ap (frames limit) cut.3 ∙ frames_front limit cut.0 cut.1 cut.2 ∙ ap (λ g. g ∷ frames limit cut.1) (sym cut.4)

@@ -1,4 +1,10 @@
-//! The program: it serves the frames of standard input from the files of a folder, and writes replies to standard output.
+//! The program: it serves the frames of standard input from the files of a folder, and writes replies to standard
+//! output.
+//!
+//! `serve_main` (serving.rt) is proved: it carries the clauses of `StandaloneEngine::run`, the exit status and the line
+//! of standard error. `main` is not proved to do more than hand it the machine's own: it holds the three standard
+//! descriptors before anything is opened, collects the words, and writes the cause of a fault behind the line. checks/
+//! tries it on real files.
 #![tactic(auto)]
 
 #[cfg(test)]
