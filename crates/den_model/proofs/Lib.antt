@@ -11,6 +11,7 @@ pub mod RoundTrips
 pub mod RequestSpells
 pub mod RequestWords
 pub mod Runs
+pub mod Grown
 pub mod Order
 pub mod Rising
 pub mod Tail

@@ -2,7 +2,9 @@
 use Rattle.std.specs.Prelude.{◌≡◌, ℕ, ◌+◌, ◌≤◌, Bool, IsTrue, List, [], ◌∷◌, length, take, map, Option, Some, cond, nat_le}
 use Rattle.den_disk.specs.Files.{Files}
 use Rattle.den_disk.specs.Goes.{IsPrefix}
+use Rattle.den_model.specs.Grown.{IsLogAfter}
 use Rattle.den_model.specs.Kv.{Durable, Kv}
+use Rattle.den_model.specs.Log.{Log}
 use Rattle.den_model.specs.Step.{Step}
 use Rattle.den_model.specs.Plan.{after, output}
 
@@ -37,10 +39,15 @@ pub record Survives (holds : Files → Option Durable) (images : ℕ → Files �
 pub record Stands (holds : Files → Option Durable) (images : ℕ → Files → Type 0) (t : ℕ) (kept : Durable) : Type 0 where
   pub each : (files : Files) → images t files → holds files ≡ Some kept
 
--- all of the steps were made, and all that they send was sent
-pub record IsWhole (sent : List (ℕ × ℕ)) (kv : Kv) (steps : List Step) (new : Kv) : Type 0 where
+-- each image at this moment gives the log after these steps
+pub record GivesLog (logs : Files → Option Log) (images : ℕ → Files → Type 0) (t : ℕ) (kv : Kv) (log : Log) (steps : List Step) : Type 0 where
+  pub each : (files : Files) → images t files → (new : Log) × (logs files ≡ Some new) × IsLogAfter log kv steps new
+
+-- all of the steps were made, all that they send was sent, and their entries joined the log
+pub record IsWhole (sent : List (ℕ × ℕ)) (kv : Kv) (log : Log) (steps : List Step) (new : Kv) (new_log : Log) : Type 0 where
   pub state : new ≡ after kv steps
   pub bytes : bytes_of sent ≡ output kv steps
+  pub logged : IsLogAfter log kv steps new_log
 
 -- disk and link tell, and the clock still does
 pub record Tells (disk link clock : Bool) : Type 0 where
@@ -48,15 +55,18 @@ pub record Tells (disk link clock : Bool) : Type 0 where
   pub link_tells : IsTrue link
   pub clock_tells : IsTrue clock
 
--- At Ok: the input was read to its end, a reading was taken for each frame, and all was made and sent.
-pub record IsDone (left : List ℕ) (readings frames : ℕ) (sent : List (ℕ × ℕ)) (kv : Kv) (steps : List Step) (new : Kv) : Type 0 where
+-- At Ok: the input was read to its end, a reading was taken for each frame, and all was made, sent and logged.
+pub record IsDone (left : List ℕ) (readings frames : ℕ) (sent : List (ℕ × ℕ)) (kv : Kv) (log : Log) (steps : List Step) (new : Kv) (new_log : Log) : Type 0 where
   pub at_end : left ≡ []
   pub one_each : readings ≡ frames
-  pub whole : IsWhole sent kv steps new
+  pub whole : IsWhole sent kv log steps new new_log
 
--- At Ok of a whole run: a reading at opening and one for each frame, exactly the output, and its end on the disk.
-pub record IsServed (holds : Files → Option Durable) (images : ℕ → Files → Type 0) (to : ℕ) (left : List ℕ) (readings frames : ℕ) (sent : List (ℕ × ℕ)) (kv : Kv) (steps : List Step) : Type 0 where
+-- At Ok of a whole run: a reading at opening and one for each frame, exactly the output, and its end on the disk, with the
+-- entry of each step in the log.
+pub record IsServed (holds : Files → Option Durable) (logs : Files → Option Log) (images : ℕ → Files → Type 0) (to : ℕ) (left : List ℕ) (readings frames : ℕ)
+    (sent : List (ℕ × ℕ)) (kv : Kv) (log : Log) (steps : List Step) : Type 0 where
   pub at_end : left ≡ []
   pub one_each : readings ≡ frames + 1
   pub output_sent : bytes_of sent ≡ output kv steps
   pub end_stands : Stands holds images to (after kv steps).durable
+  pub log_stands : GivesLog logs images to kv log steps

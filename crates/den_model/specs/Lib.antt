@@ -13,6 +13,7 @@ pub mod Regions
 pub mod Log
 pub mod MapState
 pub mod Image
+pub mod Grown
 pub mod Crash
 pub mod Laws
 pub mod Sizes

@@ -1,4 +1,4 @@
--- One step of the system: what it becomes, what it replies, and which events it raises.
+-- One step of the system: what it becomes, what it replies, which events it raises, and which entries it logs.
 use Rattle.std.specs.Prelude.{ℕ, ◌+◌, ◌-◌, ◌^◌, ◌==◌, ◌&&◌, ◌||◌, not, ℤ, pos, negsuc, Bool, true, false, List, [], ◌∷◌, ◌++◌, length, take, max, map, Option, Some, None, nat_le, nat_eq, if◌then◌else◌, unwrap_or, is_none, is_some, filter, filter_map, option_map}
 use Rattle.std.specs.Cmp.Lexicographic.{pointwise}
 use Rattle.std.specs.List.{starts_with, ends_with}
@@ -39,11 +39,12 @@ pub data Step : Type 0 where
   Cleanup : (moment : ℕ) → Step
   Ask : (frame : Frame) (moment : ℕ) → Step
 
--- what a step leaves, replies and raises
+-- what a step leaves, replies and raises, and the entries that it logs
 pub record Outcome : Type 0 where
   pub after : Kv
   pub reply : Option Reply
   pub events : List WatchEvent
+  pub logged : List LogEntry
 
 -- the clock may read 0, and no moment is 0
 abbrev pub moment_of : ℕ → ℕ
@@ -59,7 +60,7 @@ answered result = reply.Response (record { error = code.Success; leader_hint = N
 
 -- nothing changes
 abbrev pub says : Kv → Reply → Outcome
-says s r = record { after = s; reply = Some r; events = [] }
+says s r = record { after = s; reply = Some r; events = []; logged = [] }
 
 abbrev pub invalid : Kv → Outcome
 invalid s = says s (failed code.InvalidRequest None)
@@ -141,6 +142,7 @@ carried s moment c = record {
   after = put_through s (next_entry s moment c);
   reply = Some (answered (payload.Write (succeeds s.durable c)));
   events = elim (change_of s.durable (s.durable.last_index + 1) c) [ None ↦ [] | Some change ↦ events_of s.running.watchers change ];
+  logged = next_entry s moment c ∷ [];
 }
 
 abbrev pub write : Kv → ℕ → Command → Outcome
@@ -195,6 +197,7 @@ watch s key prefix prev_kv =
       after = record s { running = registered s.running key prefix prev_kv };
       reply = Some (reply.Watching (s.running.registered + 1));
       events = [];
+      logged = [];
     }
 
 -- the nodes in the order of their ids
@@ -241,10 +244,10 @@ answer s moment Bad = not_built s
 answer s moment (Good r) = if is_built r then answer_to s moment r else not_built s
 
 abbrev pub silent : Kv → Outcome
-silent s = record { after = s; reply = None; events = [] }
+silent s = record { after = s; reply = None; events = []; logged = [] }
 
 abbrev pub step : Kv → Step → Outcome
 step s Raise = silent (record s { durable = record s.durable { term = s.durable.term + 1 } })
-step s (Noop moment) = silent (put_through s (next_entry s moment command.Noop))
+step s (Noop moment) = let e = next_entry s moment command.Noop in record (silent (put_through s e)) { logged = e ∷ [] }
 step s (Cleanup moment) = silent (record { durable = cleaned s.durable moment; running = record s.running { cleaned = Some moment } })
 step s (Ask frame moment) = answer s moment frame
