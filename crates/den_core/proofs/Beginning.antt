@@ -1,11 +1,13 @@
 -- A run: the opening, and then the frames.
-use Rattle.std.proofs.Common.{◌≡◌, ℕ, ◌≤◌, List, [], ◌∷◌, ◌++◌, length, Bool, true, false, if◌then◌else◌, Option, refl, sym, ◌∙◌, ap, subst, arith}
+use Rattle.std.proofs.Common.{◌≡◌, ℕ, ◌≤◌, List, [], ◌∷◌, ◌++◌, length, Bool, true, false, if◌then◌else◌, Option, Some, refl, sym, ◌∙◌, ap, subst, arith}
 use Rattle.std.proofs.lemmas.List.{append-nil}
 use Rattle.den_disk.specs.Files.{Files}
 use Rattle.den_disk.specs.Goes.{Extends, added}
 use Rattle.den_model.specs.declared.request.Frame.{Frame}
 use Rattle.den_model.specs.Crash.{Survives, Stands, IsWhole, IsDone, IsServed}
+use Rattle.den_model.specs.Grown.{IsLogAfter}
 use Rattle.den_model.specs.Kv.{Durable, Kv}
+use Rattle.den_model.specs.Log.{Log}
 use Rattle.den_model.specs.Plan.{after, output, opening, turns, plan}
 use Rattle.den_model.specs.Step.{Cleanup, moment_of}
 use Rattle.den_core.proofs.FramesSoFar.{turns_none}
@@ -42,21 +44,23 @@ module _ (holds : Files → Option Durable) (kv : Kv) (all : List Frame) (images
         ∙ ap (λ m. opening kv m ++ turns (after kv (opening kv m)) all (added r1 r2)) is_moment
         ∙ ap (plan kv all) (sym all_taken)
 
-    whole_opening : IsWhole [] kv (opening kv moment) opened
-    whole_opening = record { state = state; bytes = sym (opening_quiet kv moment) }
-
     pub runs : Survives holds later mid to sent opened (turns opened all (added r1 r2)) → Survives holds later from to sent kv (plan kv all (added r0 r2))
     runs next = subst (λ steps. Survives holds later from to sent kv steps) is_plan
-        (goes_on holds images later from mid to [] sent kv opened (opening kv moment) (turns opened all (added r1 r2)) low high past begun whole_opening next)
+        (goes_on holds images later from mid to [] sent kv opened (opening kv moment) (turns opened all (added r1 r2)) low high past begun state (sym (opening_quiet kv moment)) next)
 
-    pub runs_whole : (left : List ℕ) (new : Kv) → IsDone left (length (added r1 r2)) (length all) sent opened (turns opened all (added r1 r2)) new → Stands holds later to new.durable
-        → IsServed holds later to left (length (added r0 r2)) (length all) sent kv (plan kv all (added r0 r2))
-    runs_whole left new done stands =
-        let every : IsWhole sent kv (opening kv moment ++ turns opened all (added r1 r2)) new =
-        whole_twice holds [] sent kv opened new (opening kv moment) (turns opened all (added r1 r2)) whole_opening done.whole in
+    -- and the frames were served, with the log as it was, behind the opening and at the end
+    pub runs_whole : (logs : Files → Option Log) (log opened_log new_log : Log) (left : List ℕ) (new : Kv) → IsLogAfter log kv (opening kv moment) opened_log
+        → IsDone left (length (added r1 r2)) (length all) sent opened opened_log (turns opened all (added r1 r2)) new new_log → Stands holds later to new.durable
+        → ((files : Files) → later to files → logs files ≡ Some new_log)
+        → IsServed holds logs later to left (length (added r0 r2)) (length all) sent kv log (plan kv all (added r0 r2))
+    runs_whole logs log opened_log new_log left new first done stands gives =
+        let whole_opening : IsWhole [] kv log (opening kv moment) opened opened_log = record { state = state; bytes = sym (opening_quiet kv moment); logged = first } in
+        let every : IsWhole sent kv log (opening kv moment ++ turns opened all (added r1 r2)) new new_log =
+        whole_twice holds [] sent kv opened new log opened_log new_log (opening kv moment) (turns opened all (added r1 r2)) whole_opening done.whole in
         record {
           at_end = done.at_end;
           one_each = omega (arith, ap length all_taken, done.one_each);
           output_sent = every.bytes ∙ ap (output kv) is_plan;
           end_stands = subst (λ (k : Kv). Stands holds later to k.durable) (every.state ∙ ap (after kv) is_plan) stands;
+          log_stands = record { each = λ files at. (new_log, gives files at, subst (λ steps. IsLogAfter log kv steps new_log) is_plan every.logged) };
         }

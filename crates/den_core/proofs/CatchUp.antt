@@ -6,7 +6,7 @@ use Rattle.den_model.specs.declared.command.Command.TheVariants.{Noop, Insert, D
 use Rattle.den_model.specs.declared.log_id.HardState.{HardState}
 use Rattle.den_model.specs.Apply.{applied, carried_out, succeeds, with_pair}
 use Rattle.den_model.specs.Entries.{LogEntry, rise_above}
-use Rattle.den_model.specs.Image.{durable, term_of, gapless_from, applied_all}
+use Rattle.den_model.specs.Image.{Corruption, or_corrupt, durable, term_of, gapless_from, applied_all}
 use Rattle.den_model.specs.Kv.{Durable}
 use Rattle.den_model.specs.Log.{Log, floor, above, between, last_index, last_of}
 use Rattle.den_model.specs.MapState.{MapState, map_applied, map_applied_all}
@@ -164,7 +164,7 @@ ends_of d (e ∷ es) = let rest = ends_of (applied d e) es in (rest.0 ∙ carrie
 
 -- ---- what is refused
 
-refusal_at : (place : ℕ) (agree lease : Bool) (d : Durable) → refusal_for place lease (if agree then Some d else None) ≡ refusal_by place agree lease (is_exhausted d)
+refusal_at : (place : ℕ) (agree lease : Bool) (d : Durable) → refusal_for lease (or_corrupt (record { place = place; offset = 0 }) (if agree then Some d else None)) ≡ refusal_by place agree lease (is_exhausted d)
 refusal_at place true lease d = refl
 refusal_at place false lease d = refl
 
@@ -178,8 +178,9 @@ pub refusal_is : (place : ℕ) (l : Log) (h : Option HardState) (s : MapState) (
 refusal_is place l h s es are =
     let ends = ends_of (durable_of h s) es in
     let lease = has_expiry s || asks_lease es in
-    ap (λ x. refusal_for place (has_expiry s || asks_lease x) (durable l h s)) are
-    ∙ ap (refusal_for place lease) (durable_by l h s es are)
+    let corrupt : Corruption = record { place = place; offset = 0 } in
+    ap (λ x. refusal_for (has_expiry s || asks_lease x) (or_corrupt corrupt (durable l h s))) are
+    ∙ ap (λ d. refusal_for lease (or_corrupt corrupt d)) (durable_by l h s es are)
     ∙ refusal_at place (agrees l s.mark.index es) lease (applied_all (durable_of h s) es)
     ∙ ap (λ n. refusal_by place (agrees l s.mark.index es) lease ((n == 2 ^ 64 - 1) || ((applied_all (durable_of h s) es).last_index == 2 ^ 64 - 1))) ends.0
     ∙ ap (λ n. refusal_by place (agrees l s.mark.index es) lease ((term_of h == 2 ^ 64 - 1) || (n == 2 ^ 64 - 1))) ends.1

@@ -7,8 +7,10 @@ use Rattle.den_model.specs.declared.request.Frame.{Frame}
 use Rattle.den_model.specs.Crash.{Survives, Stands, IsWhole, IsDone}
 use Rattle.den_model.specs.Frames.{frames, frames_behind}
 use Rattle.den_model.specs.Kv.{Durable, Kv}
+use Rattle.den_model.specs.Log.{Log}
 use Rattle.den_model.specs.Plan.{after, turn, turns}
 use Rattle.den_model.specs.Step.{moment_of}
+use Rattle.den_model.proofs.Grown.{log_after}
 use Rattle.den_model.proofs.Runs.{after_append}
 use Rattle.den_core.proofs.Lists.{added_is, added_none, added_twice, extends_by}
 use Rattle.den_core.proofs.Stretch.{goes_on, whole_twice}
@@ -34,11 +36,11 @@ turns_push kv (f ∷ all) (r ∷ readings) frame rest reading e =
     ∙ ap (λ k. steps ++ more ++ turn k frame (moment_of reading)) (sym (after_append kv steps more))
 
 -- what the loop keeps where all is told
-pub record SoFar (holds : Files → Option Durable) (images : ℕ → Files → Type 0) (from to : ℕ) (all left : List Frame) (readings : List ℕ) (sent : List (ℕ × ℕ)) (kv now : Kv) : Type 0 where
+pub record SoFar (holds : Files → Option Durable) (images : ℕ → Files → Type 0) (from to : ℕ) (all left : List Frame) (readings : List ℕ) (sent : List (ℕ × ℕ)) (kv now : Kv) (log log_now : Log) : Type 0 where
   pub few : length readings ≤ length all
   pub rest : drop (length readings) all ≡ left
   pub survives : Survives holds images from to sent kv (turns kv all readings)
-  pub whole : IsWhole sent kv (turns kv all readings) now
+  pub whole : IsWhole sent kv log (turns kv all readings) now log_now
 
 module _ (holds : Files → Option Durable) where
   -- no step, where each image stands for the state
@@ -53,48 +55,50 @@ module _ (holds : Files → Option Durable) where
     moments = tt;
   }
 
-  at_first : (images : ℕ → Files → Type 0) (t : ℕ) (all : List Frame) (kv : Kv) → Stands holds images t kv.durable → SoFar holds images t t all all [] [] kv kv
-  at_first images t all kv stands = record {
+  at_first : (images : ℕ → Files → Type 0) (t : ℕ) (all : List Frame) (kv : Kv) (log : Log) → Stands holds images t kv.durable → SoFar holds images t t all all [] [] kv kv log log
+  at_first images t all kv log stands = record {
     few = omega arith;
     rest = refl;
     survives = subst (λ steps. Survives holds images t t [] kv steps) (sym (turns_none kv all)) (nothing_yet images t kv stands);
-    whole = subst (λ steps. IsWhole [] kv steps kv) (sym (turns_none kv all)) (record { state = refl; bytes = refl });
+    whole = subst (λ steps. IsWhole [] kv log steps kv log) (sym (turns_none kv all)) (record { state = refl; bytes = refl; logged = log_after log log kv [] refl });
   }
 
   -- before the first frame
-  pub begins : (images : ℕ → Files → Type 0) (t : ℕ) (all : List Frame) (readings : List ℕ) (sent : List (ℕ × ℕ)) (kv : Kv) → Stands holds images t kv.durable
-      → SoFar holds images t t all all (added readings readings) (added sent sent) kv kv
-  begins images t all readings sent kv stands =
-      subst (λ s. SoFar holds images t t all all (added readings readings) s kv kv) (sym (added_none sent))
-      (subst (λ r. SoFar holds images t t all all r [] kv kv) (sym (added_none readings)) (at_first images t all kv stands))
+  pub begins : (images : ℕ → Files → Type 0) (t : ℕ) (all : List Frame) (readings : List ℕ) (sent : List (ℕ × ℕ)) (kv : Kv) (log : Log) → Stands holds images t kv.durable
+      → SoFar holds images t t all all (added readings readings) (added sent sent) kv kv log log
+  begins images t all readings sent kv log stands =
+      subst (λ s. SoFar holds images t t all all (added readings readings) s kv kv log log) (sym (added_none sent))
+      (subst (λ r. SoFar holds images t t all all r [] kv kv log log) (sym (added_none readings)) (at_first images t all kv log stands))
 
-  module _ (old_images images : ℕ → Files → Type 0) (from mid to : ℕ) (all left : List Frame) (readings : List ℕ) (sent more : List (ℕ × ℕ)) (kv now : Kv)
+  module _ (old_images images : ℕ → Files → Type 0) (from mid to : ℕ) (all left : List Frame) (readings : List ℕ) (sent more : List (ℕ × ℕ)) (kv now : Kv) (log log_now : Log)
       (frame : Frame) (rest : List Frame) (reading : ℕ) (low : from ≤ mid) (high : mid ≤ to) (past : (t : ℕ) (files : Files) → t ≤ mid → images t files → old_images t files)
-      (so_far : SoFar holds old_images from mid all left readings sent kv now) (here : left ≡ frame ∷ rest)
+      (so_far : SoFar holds old_images from mid all left readings sent kv now log log_now) (here : left ≡ frame ∷ rest)
       (next : Survives holds images mid to more now (turn now frame (moment_of reading))) where
     is_plan : turns kv all (readings ++ reading ∷ []) ≡ turns kv all readings ++ turn now frame (moment_of reading)
     is_plan = turns_push kv all readings frame rest reading (so_far.rest ∙ here) ∙ ap (λ k. turns kv all readings ++ turn k frame (moment_of reading)) (sym so_far.whole.state)
 
     frame_begun : Survives holds images from to (sent ++ more) kv (turns kv all (readings ++ reading ∷ []))
     frame_begun = subst (λ steps. Survives holds images from to (sent ++ more) kv steps) (sym is_plan)
-        (goes_on holds old_images images from mid to sent more kv now (turns kv all readings) (turn now frame (moment_of reading)) low high past so_far.survives so_far.whole next)
+        (goes_on holds old_images images from mid to sent more kv now (turns kv all readings) (turn now frame (moment_of reading)) low high past so_far.survives so_far.whole.state so_far.whole.bytes next)
 
-    frame_served : (new : Kv) → IsWhole more now (turn now frame (moment_of reading)) new → SoFar holds images from to all rest (readings ++ reading ∷ []) (sent ++ more) kv new
-    frame_served new done = record {
+    frame_served : (new : Kv) (new_log : Log) → IsWhole more now log_now (turn now frame (moment_of reading)) new new_log
+        → SoFar holds images from to all rest (readings ++ reading ∷ []) (sent ++ more) kv new log new_log
+    frame_served new new_log done = record {
       few = omega (arith, ap length (so_far.rest ∙ here), length_push readings reading, length-drop (length readings) all);
       rest = ap (λ n. drop n all) (length_push readings reading) ∙ sym (drop-drop 1 (length readings) all) ∙ ap (drop 1) (so_far.rest ∙ here);
       survives = frame_begun;
-      whole = subst (λ steps. IsWhole (sent ++ more) kv steps new) (sym is_plan) (whole_twice holds sent more kv now new (turns kv all readings) (turn now frame (moment_of reading)) so_far.whole done);
+      whole = subst (λ steps. IsWhole (sent ++ more) kv log steps new new_log) (sym is_plan)
+          (whole_twice holds sent more kv now new log log_now new_log (turns kv all readings) (turn now frame (moment_of reading)) so_far.whole done);
     }
 
 -- the same over the lists that link and clock keep: readings r0 at the start, r1 before the frame, r2 with its own;
 -- bytes sent s0, s1, s2 behind its read, s3 at the end
-module _ (holds : Files → Option Durable) (old_images images : ℕ → Files → Type 0) (from mid to : ℕ) (all left rest : List Frame) (frame : Frame) (kv now : Kv)
+module _ (holds : Files → Option Durable) (old_images images : ℕ → Files → Type 0) (from mid to : ℕ) (all left rest : List Frame) (frame : Frame) (kv now : Kv) (log log_now : Log)
     (r0 r1 r2 : List ℕ) (reading moment : ℕ) (s0 s1 s2 s3 : List (ℕ × ℕ))
     (low : from ≤ mid) (high : mid ≤ to) (past : (t : ℕ) (files : Files) → t ≤ mid → images t files → old_images t files)
     (taken : Extends r0 r1) (read : r2 ≡ r1 ++ reading ∷ []) (is_moment : moment ≡ moment_of reading)
     (sent : Extends s0 s1) (quiet : s2 ≡ s1) (more : Extends s2 s3)
-    (so_far : SoFar holds old_images from mid all left (added r0 r1) (added s0 s1) kv now) (here : left ≡ frame ∷ rest)
+    (so_far : SoFar holds old_images from mid all left (added r0 r1) (added s0 s1) kv now log log_now) (here : left ≡ frame ∷ rest)
     (next : Survives holds images mid to (added s2 s3) now (turn now frame moment)) where
   all_taken : added r0 r2 ≡ added r0 r1 ++ reading ∷ []
   all_taken = added_twice r0 r1 r2 taken (extends_by r1 r2 (reading ∷ []) read) ∙ ap (λ l. added r0 r1 ++ l) (added_is r1 r2 (reading ∷ []) read)
@@ -109,27 +113,27 @@ module _ (holds : Files → Option Durable) (old_images images : ℕ → Files �
   pub begun_over : Survives holds images from to (added s0 s3) kv (turns kv all (added r0 r2))
   begun_over = subst (λ s. Survives holds images from to s kv (turns kv all (added r0 r2))) (sym all_sent)
       (subst (λ r. Survives holds images from to (added s0 s1 ++ added s2 s3) kv (turns kv all r)) (sym all_taken)
-      (frame_begun holds old_images images from mid to all left (added r0 r1) (added s0 s1) (added s2 s3) kv now frame rest reading low high past so_far here at_moment))
+      (frame_begun holds old_images images from mid to all left (added r0 r1) (added s0 s1) (added s2 s3) kv now log log_now frame rest reading low high past so_far here at_moment))
 
   -- and served
-  pub served_over : (new : Kv) → IsWhole (added s2 s3) now (turn now frame moment) new → SoFar holds images from to all rest (added r0 r2) (added s0 s3) kv new
-  served_over new done = subst (λ s. SoFar holds images from to all rest (added r0 r2) s kv new) (sym all_sent)
-      (subst (λ r. SoFar holds images from to all rest r (added s0 s1 ++ added s2 s3) kv new) (sym all_taken)
-      (frame_served holds old_images images from mid to all left (added r0 r1) (added s0 s1) (added s2 s3) kv now frame rest reading low high past so_far here at_moment
-      new (subst (λ m. IsWhole (added s2 s3) now (turn now frame m) new) is_moment done)))
+  pub served_over : (new : Kv) (new_log : Log) → IsWhole (added s2 s3) now log_now (turn now frame moment) new new_log → SoFar holds images from to all rest (added r0 r2) (added s0 s3) kv new log new_log
+  served_over new new_log done = subst (λ s. SoFar holds images from to all rest (added r0 r2) s kv new log new_log) (sym all_sent)
+      (subst (λ r. SoFar holds images from to all rest r (added s0 s1 ++ added s2 s3) kv new log new_log) (sym all_taken)
+      (frame_served holds old_images images from mid to all left (added r0 r1) (added s0 s1) (added s2 s3) kv now log log_now frame rest reading low high past so_far here at_moment
+      new new_log (subst (λ m. IsWhole (added s2 s3) now log_now (turn now frame m) new new_log) is_moment done)))
 
 frames_none : (limit : ℕ) → frames limit [] ≡ []
 unfolding frames_behind
 frames_none limit = refl
 
 -- no input is left
-pub done_over : (holds : Files → Option Durable) (images : ℕ → Files → Type 0) (from to limit : ℕ) (all : List Frame) (left rest : List ℕ) (readings : List ℕ) (s0 s1 s2 : List (ℕ × ℕ)) (kv now : Kv)
-    → SoFar holds images from to all (frames limit left) readings (added s0 s1) kv now → (left ≡ []) × (rest ≡ []) → s2 ≡ s1
-    → IsDone rest (length readings) (length all) (added s0 s2) kv (turns kv all readings) now
-done_over holds images from to limit all left rest readings s0 s1 s2 kv now so_far ended quiet =
+pub done_over : (holds : Files → Option Durable) (images : ℕ → Files → Type 0) (from to limit : ℕ) (all : List Frame) (left rest : List ℕ) (readings : List ℕ) (s0 s1 s2 : List (ℕ × ℕ)) (kv now : Kv) (log log_now : Log)
+    → SoFar holds images from to all (frames limit left) readings (added s0 s1) kv now log log_now → (left ≡ []) × (rest ≡ []) → s2 ≡ s1
+    → IsDone rest (length readings) (length all) (added s0 s2) kv log (turns kv all readings) now log_now
+done_over holds images from to limit all left rest readings s0 s1 s2 kv now log log_now so_far ended quiet =
     let none : frames limit left ≡ [] = ap (frames limit) ended.0 ∙ frames_none limit in
     record {
       at_end = ended.1;
       one_each = omega (arith, so_far.few, ap length (so_far.rest ∙ none), length-drop (length readings) all);
-      whole = subst (λ s. IsWhole (added s0 s) kv (turns kv all readings) now) (sym quiet) so_far.whole;
+      whole = subst (λ s. IsWhole (added s0 s) kv log (turns kv all readings) now log_now) (sym quiet) so_far.whole;
     }

@@ -1,5 +1,6 @@
 -- The opening's steps and a turn's, where no lease is configured.
 use Rattle.std.proofs.Common.{◌≡◌, ℕ, ◌≤◌, ◌+◌, ◌&&◌, ◌++◌, false, [], ◌∷◌, Option, Some, None, nat_le, if◌then◌else◌, sym, ◌∙◌, ap, subst}
+use Rattle.std.proofs.lemmas.List.{append-nil}
 use Rattle.den_disk.specs.Families.{OldOrNew}
 use Rattle.den_disk.specs.Files.{Files}
 use Rattle.den_model.specs.declared.command.Command.TheVariants as command
@@ -7,7 +8,11 @@ use Rattle.den_model.specs.declared.request.Frame.{Frame}
 use Rattle.den_model.specs.Apply.{applied}
 use Rattle.den_model.specs.Crash.{Survives}
 use Rattle.den_model.specs.Kv.{Durable, Kv}
-use Rattle.den_model.specs.Plan.{after, opening, turn}
+use Rattle.den_model.specs.Grown.{appended, IsLogAfter}
+use Rattle.den_model.specs.Log.{Log, changed}
+use Rattle.den_model.specs.Plan.{after, logged, opening, turn}
+use Rattle.den_model.specs.declared.region.LogRegion.TheVariants.{Append}
+use Rattle.den_model.proofs.Grown.{log_after}
 use Rattle.den_model.specs.Step.{Raise, Noop, Cleanup, Ask, answer, next_entry}
 use Rattle.den_model.specs.declared.log_id.HardState.{HardState}
 use Rattle.den_model.specs.declared.running.Running.{Running}
@@ -49,3 +54,18 @@ pub raised_is : (h h2 : Option HardState) (s s2 : MapState) (running running2 : 
     → kv_of h2 s2 running2 ≡ after (kv_of h s running) (Raise ∷ [])
 raised_is h h2 s s2 running running2 saved same_map same_running =
     ap (λ x. kv_of x s2 running2) saved ∙ ap (λ x. kv_of (Some (raised_of running h)) x running2) same_map ∙ ap (λ x. kv_of (Some (raised_of running h)) s x) same_running
+
+-- ---- the log
+
+-- the term's first entry joined it
+pub opening_log : (old mid new : Log) (kv between : Kv) (moment : ℕ) → kv.running.setting.lease ≡ false → between ≡ after kv (Raise ∷ []) → mid ≡ old
+    → new ≡ changed mid (Append (next_entry between moment command.Noop ∷ [])) → IsLogAfter old kv (opening kv moment) new
+opening_log old mid new kv between moment no_lease is same joined = log_after old new kv (opening kv moment)
+    (joined ∙ ap (λ l. changed l (Append (next_entry between moment command.Noop ∷ []))) same ∙ ap (λ k. changed old (Append (next_entry k moment command.Noop ∷ []))) is
+    ∙ ap (λ steps. appended old (logged kv steps)) (sym (opening_is kv moment no_lease)))
+
+-- the entries of a frame's step did
+pub turn_log : (old new : Log) (kv : Kv) (frame : Frame) (moment : ℕ) → kv.running.setting.lease ≡ false → new ≡ appended old (answer kv moment frame).logged
+    → IsLogAfter old kv (turn kv frame moment) new
+turn_log old new kv frame moment no_lease joined = log_after old new kv (turn kv frame moment)
+    (joined ∙ ap (appended old) (sym (append-nil (answer kv moment frame).logged)) ∙ ap (λ steps. appended old (logged kv steps)) (sym (turn_is kv frame moment no_lease)))

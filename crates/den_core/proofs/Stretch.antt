@@ -7,8 +7,10 @@ use Rattle.den_disk.specs.Files.{Files, Content, IsImage}
 use Rattle.den_disk.specs.Goes.{IsPrefix, added, stamped}
 use Rattle.den_model.specs.Crash.{IsAfterSome, Survives, Stands, IsWhole, bytes_of, sent_by}
 use Rattle.den_model.specs.Kv.{Durable, Kv}
+use Rattle.den_model.specs.Log.{Log}
 use Rattle.den_model.specs.Plan.{after, output}
 use Rattle.den_model.specs.Step.{Step}
+use Rattle.den_model.proofs.Grown.{log_twice}
 use Rattle.den_model.proofs.Runs.{after_append, output_append}
 use Rattle.den_core.proofs.Lists.{added_is, sent_by-append, sent_by_all, sent_by_none, within-append, bytes_of-append, bytes_of-stamped, within-stamped}
 
@@ -47,25 +49,27 @@ module _ (holds : Files → Option Durable) where
   -- Two stretches in a row: the first made all its steps and sent all their output.
   pub goes_on : (old_images images : ℕ → Files → Type 0) (from mid to : ℕ) (sent more : List (ℕ × ℕ)) (kv between : Kv) (steps next : List Step)
       → from ≤ mid → mid ≤ to → ((t : ℕ) (files : Files) → t ≤ mid → images t files → old_images t files)
-      → Survives holds old_images from mid sent kv steps → IsWhole sent kv steps between → Survives holds images mid to more between next
+      → Survives holds old_images from mid sent kv steps → between ≡ after kv steps → bytes_of sent ≡ output kv steps → Survives holds images mid to more between next
       → Survives holds images from to (sent ++ more) kv (steps ++ next)
-  goes_on old_images images from mid to sent more kv between steps next low high past one whole two = record {
+  goes_on old_images images from mid to sent more kv between steps next low high past one state bytes two = record {
     each = λ t files begun ended at. ⊎_elim
         (λ early. subst (λ bytes. IsAfterSome holds kv (steps ++ next) bytes files)
         (sym (sent_by-append sent more t ∙ ap (λ l. sent_by sent t ++ l) (sent_by_none mid to more t early two.moments) ∙ append-nil (sent_by sent t)))
         (wider kv steps next (sent_by sent t) files (one.each t files begun (omega arith) (past t files (omega arith) at))))
         (λ late. subst (λ bytes. IsAfterSome holds kv (steps ++ next) bytes files)
-        (sym (sent_by-append sent more t ∙ ap (λ l. l ++ sent_by more t) (sent_by_all from mid sent t late one.moments ∙ whole.bytes)))
-        (further kv between steps next (sent_by more t) files whole.state (two.each t files late ended at)))
+        (sym (sent_by-append sent more t ∙ ap (λ l. l ++ sent_by more t) (sent_by_all from mid sent t late one.moments ∙ bytes)))
+        (further kv between steps next (sent_by more t) files state (two.each t files late ended at)))
         (cases_lt t mid);
     moments = within-append from mid to sent more low high one.moments two.moments;
   }
 
-  pub whole_twice : (sent more : List (ℕ × ℕ)) (kv between new : Kv) (steps next : List Step) → IsWhole sent kv steps between → IsWhole more between next new → IsWhole (sent ++ more) kv (steps ++ next) new
-  whole_twice sent more kv between new steps next one two = record {
+  pub whole_twice : (sent more : List (ℕ × ℕ)) (kv between new : Kv) (log mid_log new_log : Log) (steps next : List Step) → IsWhole sent kv log steps between mid_log → IsWhole more between mid_log next new new_log
+      → IsWhole (sent ++ more) kv log (steps ++ next) new new_log
+  whole_twice sent more kv between new log mid_log new_log steps next one two = record {
     state = two.state ∙ ap (λ k. after k next) one.state ∙ sym (after_append kv steps next);
     bytes = bytes_of-append sent more ∙ ap (λ l. l ++ bytes_of more) one.bytes ∙ ap (λ l. output kv steps ++ l) two.bytes
         ∙ ap (λ k. output kv steps ++ output k next) one.state ∙ sym (output_append kv steps next);
+    logged = log_twice log mid_log new_log kv between steps next one.state one.logged two.logged;
   }
 
   -- Steps that were made, and then a prefix of their output is sent, at the moment that they ended.

@@ -1,5 +1,5 @@
--- What log, hard state and map stand for together, where the map has each entry of the log.
-use Rattle.std.proofs.Common.{◌≡◌, ℕ, ◌≤◌, ◌+◌, ◌&&◌, Bool, List, [], Option, Some, None, nat_le, if◌then◌else◌, ◌∙◌, ap}
+-- What log, hard state and map stand for together, where the map has each entry of the log, and that none of them failed then.
+use Rattle.std.proofs.Common.{◌≡◌, ℕ, ◌≤◌, ◌+◌, ◌&&◌, Bool, List, [], Option, Some, None, nat_le, if◌then◌else◌, true, false, inl, inr, ◌∙◌, ap, sym, subst}
 use Rattle.std.proofs.lemmas.Bool.{le-leb}
 use Rattle.den_model.specs.declared.log_id.HardState.{HardState}
 use Rattle.den_model.specs.Entries.{LogEntry}
@@ -7,7 +7,7 @@ use Rattle.den_model.specs.Image.{durable, joined, gapless_from, applied_all}
 use Rattle.den_model.specs.Kv.{Durable}
 use Rattle.den_model.specs.Log.{Log, floor, above}
 use Rattle.den_model.specs.MapState.{MapState}
-use Rattle.den_core.specs.Parts.{durable_of, IsCaughtUp}
+use Rattle.den_core.specs.Parts.{durable_of, HasFailed, IsCaughtUp}
 
 -- what the test and the entries above the mark give
 found : Bool → List LogEntry → Durable → ℕ → Option Durable
@@ -29,3 +29,15 @@ durable_is l h s caught = found_is l h s [] caught.purged caught.applied
 pub joined_here : (a : Option Log) (b : Option (Option HardState)) (c : Option MapState) (l : Log) (h : Option HardState) (s : MapState) → IsCaughtUp l s
     → a ≡ Some l → b ≡ Some h → c ≡ Some s → joined a b c ≡ Some (durable_of h s)
 joined_here a b c l h s caught p q r = ap (λ x. joined x b c) p ∙ ap (λ y. joined (Some l) y c) q ∙ ap (λ z. joined (Some l) (Some h) z) r ∙ durable_is l h s caught
+
+-- a flag that is not set
+abbrev IsUnset : Bool → Type 0
+IsUnset false = Unit {0}
+IsUnset true = ⊥
+
+-- what has failed cannot go on
+pub failed_not_ready : (failed : Bool) (a b c : Type 0) → failed ≡ false → a → b → c → HasFailed failed a b c → ⊥
+failed_not_ready failed a b c whole x y z (inl flag) = subst IsUnset (sym whole ∙ flag) tt
+failed_not_ready failed a b c whole x y z (inr (inl log)) = log x
+failed_not_ready failed a b c whole x y z (inr (inr (inl meta))) = meta y
+failed_not_ready failed a b c whole x y z (inr (inr (inr state))) = state z

@@ -1,9 +1,9 @@
 -- What opening refuses, and why it ends early.
-use Rattle.std.specs.Prelude.{◌≡◌, ◌≤◌, ◌⊎◌, ◌+◌, ◌-◌, ◌^◌, ◌==◌, ◌&&◌, ◌||◌, not, nat_le, ℕ, Bool, true, List, Option, Some, None, if◌then◌else◌}
+use Rattle.std.specs.Prelude.{◌≡◌, ◌≤◌, ◌⊎◌, ◌+◌, ◌-◌, ◌^◌, ◌==◌, ◌&&◌, ◌||◌, not, nat_le, ℕ, Bool, true, List, Option, Some, None, Result, Ok, Err, if◌then◌else◌}
 use Rattle.den_codec.specs.declared.error.Error.{Error}
 use Rattle.den_codec.specs.declared.error.Error.TheVariants.{DataCorruption, FeatureNotEnabled, ProposeFailed, OutOfMemory}
 use Rattle.den_model.specs.declared.log_id.HardState.{HardState}
-use Rattle.den_model.specs.Image.{durable, gapless_from}
+use Rattle.den_model.specs.Image.{Corruption, durable, or_corrupt, gapless_from}
 use Rattle.den_model.specs.Entries.{LogEntry}
 use Rattle.den_model.specs.Kv.{Durable}
 use Rattle.den_model.specs.Log.{Log, above, floor}
@@ -15,15 +15,15 @@ use Rattle.den_journal.specs.Causes.{IsRefusal}
 abbrev pub is_exhausted : Durable → Bool
 is_exhausted d = (d.term == 2 ^ 64 - 1) || (d.last_index == 2 ^ 64 - 1)
 
--- A log in this file and a map that disagree; then a key with an expiry or an entry to apply that has a time to live,
--- where no lease is configured; then a term or an index that is exhausted.
-abbrev pub refusal_for : ℕ → Bool → Option Durable → Option Error
-refusal_for place lease None = Some (DataCorruption place 0)
-refusal_for place lease (Some d) = if lease then Some FeatureNotEnabled else if is_exhausted d then Some ProposeFailed else None
+-- Files that stand for nothing, and where; then a key with an expiry or an entry to apply that has a time to live, where no
+-- lease is configured; then a term or an index that is exhausted.
+abbrev pub refusal_for : Bool → Result Durable Corruption → Option Error
+refusal_for lease (Err c) = Some (DataCorruption c.place c.offset)
+refusal_for lease (Ok d) = if lease then Some FeatureNotEnabled else if is_exhausted d then Some ProposeFailed else None
 
--- what opening refuses of these three
+-- what opening refuses of a log in this file, a hard state and a map; a log and a map that disagree stand for nothing
 abbrev pub opening_refusal : ℕ → Log → Option HardState → MapState → Option Error
-opening_refusal place l h s = refusal_for place (has_expiry s || asks_lease (above s.mark.index l.entries)) (durable l h s)
+opening_refusal place l h s = refusal_for (has_expiry s || asks_lease (above s.mark.index l.entries)) (or_corrupt (record { place = place; offset = 0 }) (durable l h s))
 
 -- whether the log's entries go on behind this index without a gap
 abbrev pub agrees : Log → ℕ → List LogEntry → Bool

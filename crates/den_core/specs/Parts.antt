@@ -1,5 +1,5 @@
 -- What an engine's three stores hold together, and when they are as an engine wants them.
-use Rattle.std.specs.Prelude.{◌≡◌, ◌≤◌, ◌+◌, ℕ, true, false, [], Option, option_map}
+use Rattle.std.specs.Prelude.{◌≡◌, ◌≤◌, ◌⊎◌, ◌+◌, ℕ, Bool, true, false, [], Option, option_map}
 use Rattle.den_model.specs.declared.log_id.HardState.{HardState}
 use Rattle.den_model.specs.declared.log_id.VotedFor.{VotedFor}
 use Rattle.den_model.specs.declared.running.Running.{Running}
@@ -42,6 +42,10 @@ pub record IsReady (log_ready meta_ready state_ready : Type 0) (l : Log) (s : Ma
   pub state : state_ready
   pub caught_up : IsCaughtUp l s
   pub plain : IsPlain running
+
+-- one of the three stores has failed, or a step ended between its writes
+abbrev pub HasFailed : Bool → (log_ready meta_ready state_ready : Type 0) → Type 0
+HasFailed failed log_ready meta_ready state_ready = (failed ≡ true) ⊎ (log_ready → ⊥) ⊎ (meta_ready → ⊥) ⊎ (state_ready → ⊥)
 
 -- each of the three has its files as its last call left them
 pub record AllRest (log_rests meta_rests state_rests : Type 0) : Type 0 where

@@ -1,14 +1,26 @@
--- Why reading, sending and serving end early.
-use Rattle.std.specs.Prelude.{ℕ}
+-- Why reading, sending and serving end early, and what a refused step leaves.
+use Rattle.std.specs.Prelude.{◌≡◌, ◌⊎◌, ℕ}
+use Rattle.den_disk.specs.declared.disk.Disk.{Ghosts}
+use Rattle.den_disk.specs.Files.{Content}
+use Rattle.den_model.specs.Kv.{Kv}
+use Rattle.den_model.specs.Log.{Log}
 use Rattle.den_codec.specs.declared.error.Error.{Error}
-use Rattle.den_codec.specs.declared.error.Error.TheVariants.{OutOfMemory, StorageIoError, DiskFull, LinkFault}
+use Rattle.den_codec.specs.declared.error.Error.TheVariants.{OutOfMemory, StorageIoError, DiskFull, LinkFault, DataCorruption, FeatureNotEnabled, ProposeFailed, UnorderedChunk, Config, StateMachineError}
 use Rattle.den_journal.specs.Causes.{IsRefusal}
+use Rattle.den_journal.specs.Writes.{Tells}
 
 -- of a call that is lent a link: want of memory, or a fault of the link where its count rose
 abbrev pub IsLinkRefusal : Type 0 → Error → Type 0
 IsLinkRefusal rose OutOfMemory = Unit {0}
 IsLinkRefusal rose LinkFault = rose
-IsLinkRefusal rose _ = ⊥
+IsLinkRefusal rose StorageIoError = ⊥
+IsLinkRefusal rose (DiskFull needed limit) = ⊥
+IsLinkRefusal rose (DataCorruption place offset) = ⊥
+IsLinkRefusal rose FeatureNotEnabled = ⊥
+IsLinkRefusal rose ProposeFailed = ⊥
+IsLinkRefusal rose (UnorderedChunk index) = ⊥
+IsLinkRefusal rose (Config place) = ⊥
+IsLinkRefusal rose StateMachineError = ⊥
 
 -- of a call that is lent a disk and a link: a refusal of the disk, or a fault of the link where its count rose
 abbrev pub IsServeRefusal : Type 0 → Type 0 → ℕ → Error → Type 0
@@ -16,4 +28,23 @@ IsServeRefusal disk_rose link_rose most LinkFault = link_rose
 IsServeRefusal disk_rose link_rose most OutOfMemory = Unit {0}
 IsServeRefusal disk_rose link_rose most StorageIoError = disk_rose
 IsServeRefusal disk_rose link_rose most (DiskFull needed limit) = IsRefusal disk_rose most (DiskFull needed limit)
-IsServeRefusal disk_rose link_rose most _ = ⊥
+IsServeRefusal disk_rose link_rose most (DataCorruption place offset) = ⊥
+IsServeRefusal disk_rose link_rose most FeatureNotEnabled = ⊥
+IsServeRefusal disk_rose link_rose most ProposeFailed = ⊥
+IsServeRefusal disk_rose link_rose most (UnorderedChunk index) = ⊥
+IsServeRefusal disk_rose link_rose most (Config place) = ⊥
+IsServeRefusal disk_rose link_rose most StateMachineError = ⊥
+
+-- A call left a stepper and the disk as they were: where the stepper could go on it still can.
+pub record IsUntouched {S D : Type 0} (disk : Ghosts D) (kv : S → Kv) (log : S → Log) (weight : S → ℕ) (ready : S → Type 0) (rests : S → Content → Type 0)
+    (old new : S) (before now : D) : Type 0 where
+  pub same_kv : kv new ≡ kv old
+  pub same_log : log new ≡ log old
+  pub same_weight : weight new ≡ weight old
+  pub same_disk : now ≡ before
+  pub stays_ready : ready old → ready new
+  pub stays_at_rest : Tells disk before → rests old (disk.content before) → rests new (disk.content now)
+
+-- what a refusal of a step leaves: a stepper that has failed; or, only where memory was wanted, all as it was
+abbrev pub FailsOrStays : Error → (failed untouched : Type 0) → Type 0
+FailsOrStays e failed untouched = ((e ≡ OutOfMemory) × untouched) ⊎ failed

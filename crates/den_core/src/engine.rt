@@ -1,5 +1,5 @@
 //! The engine: the next entry into the log and onto the map, and the answer.
-ghost use Rattle.std.specs.Prelude.{◌≡◌, ◌<◌, ◌≤◌, ◌^◌, ◌-◌, ◌+◌, ℕ, IsTrue, List, [], ◌∷◌, Option, Some, OnOk, IfOk, IfErr, false};
+ghost use Rattle.std.specs.Prelude.{◌≡◌, ◌<◌, ◌≤◌, ◌^◌, ◌-◌, ◌+◌, ℕ, IsTrue, List, [], ◌∷◌, Option, Some, OnOk, IfOk, IfErr, true, false};
 ghost use Rattle.den_disk.specs.declared.place.Family.TheVariants.{Snapshot as snapshot_family};
 ghost use Rattle.den_disk.specs.Families.{OldOrNew};
 ghost use Rattle.den_disk.specs.Files.{Files, Content, IsImage};
@@ -7,12 +7,14 @@ ghost use Rattle.den_disk.specs.Goes.{Rose, DiskGoesOn};
 ghost use Rattle.den_model.specs.Apply.{applied, succeeds};
 ghost use Rattle.den_model.specs.Image.{joined, term_of};
 ghost use Rattle.den_model.specs.Kv.{Durable, Kv};
+ghost use Rattle.den_model.specs.Grown.{appended};
 ghost use Rattle.den_model.specs.Log.{changed};
 ghost use Rattle.den_model.specs.declared.region.LogRegion.TheVariants.{Append};
 ghost use Rattle.den_model.specs.Step.{answer, has_ttl, next_entry, put_through};
 ghost use Rattle.den_journal.specs.Causes.{IsRefusal};
 ghost use Rattle.den_codec.specs.Full.{IsHeavy};
-ghost use Rattle.den_core.specs.Parts.{durable_of, kv_of, raised_of, vote_of, IsCaughtUp, IsPlain, IsReady, AllRest};
+ghost use Rattle.den_core.specs.Parts.{durable_of, kv_of, raised_of, vote_of, HasFailed, IsCaughtUp, IsPlain, IsReady, AllRest};
+ghost use Rattle.den_core.specs.Refusals.{FailsOrStays, IsUntouched};
 ghost use Rattle.den_core.specs.Spared.{SparesFamily};
 ghost use Rattle.den_core.specs.Weights.{commit_rise, frame_rise, raise_rise};
 
@@ -27,13 +29,15 @@ use den_state::StateMachine;
 use den_store::{LogStore, MetaStore};
 use std::alloc::Global;
 
-/// Log, hard state and map, and the run's part. The map has each entry of the log.
+/// Log, hard state and map, and the run's part. The map has each entry of the log, unless a step ended between its writes:
+/// then the engine has failed.
 #[derive(Drop)]
 pub struct Engine<G, T, M> {
     log: G,
     meta: T,
     state: M,
     running: Running,
+    failed: bool,
     alloc: Global,
 }
 
@@ -56,6 +60,7 @@ impl<G, T, M> Engine<G, T, M> {
         requires caught_up { IsCaughtUp (G.shown log).value (M.map state) }
         requires plain { IsPlain running }
         ensures kv { ⟦<Engine<G, T, M> as Stepper<D>>⟧.kv result ≡ kv_of (T.shown meta).value (M.map state) running }
+        ensures log { ⟦<Engine<G, T, M> as Stepper<D>>⟧.log result ≡ (G.shown log).value }
         ensures ready { ⟦<Engine<G, T, M> as Stepper<D>>⟧.ready result }
         ensures weight { ⟦<Engine<G, T, M> as Stepper<D>>⟧.weight result ≡ (G.shown log).weight + (T.shown meta).weight + M.weight state }
         ensures rests { (content : Content) → AllRest ((G.shown log).rests content) ((T.shown meta).rests content) (M.rests state content)
@@ -66,6 +71,7 @@ impl<G, T, M> Engine<G, T, M> {
             meta,
             state,
             running,
+            failed: false,
             alloc,
         }
     }
@@ -119,6 +125,8 @@ fn raise<D: Disk, G: LogStore<D>, T: MetaStore<D>, M: StateMachine<D>>(
         ≤ (G.shown engine.old.log).weight + (T.shown engine.old.meta).weight + M.weight engine.old.state + raise_rise) }
     ensures refused { IfErr result (λ e. IsRefusal (Rose (D.faults disk.old) (D.faults disk.new)) (D.kind disk.old).limit e) }
     ensures heavy { IfErr result (IsHeavy (D.kind disk.old).limit ((G.shown engine.old.log).weight + (T.shown engine.old.meta).weight + M.weight engine.old.state + raise_rise)) }
+    ensures left { IfErr result (λ e. FailsOrStays e (⟦<Engine<G, T, M> as Stepper<D>>⟧.failed engine.new)
+        (IsUntouched D.Disk ⟦<Engine<G, T, M> as Stepper<D>>⟧.kv ⟦<Engine<G, T, M> as Stepper<D>>⟧.log ⟦<Engine<G, T, M> as Stepper<D>>⟧.weight ⟦<Engine<G, T, M> as Stepper<D>>⟧.ready ⟦<Engine<G, T, M> as Stepper<D>>⟧.rests engine.old engine.new disk.old disk.new)) }
 {
     let term = current_term::<D, T>(&engine.meta) + 1;
     let raised = HardState {
@@ -164,12 +172,19 @@ fn commit<D: Disk, G: LogStore<D>, T: MetaStore<D>, M: StateMachine<D>>(
         ≤ (G.shown engine.old.log).weight + (T.shown engine.old.meta).weight + M.weight engine.old.state + commit_rise command) }
     ensures refused { IfErr result (λ e. IsRefusal (Rose (D.faults disk.old) (D.faults disk.new)) (D.kind disk.old).limit e) }
     ensures heavy { IfErr result (IsHeavy (D.kind disk.old).limit ((G.shown engine.old.log).weight + (T.shown engine.old.meta).weight + M.weight engine.old.state + commit_rise command)) }
+    ensures whole { OnOk result (engine.new.failed ≡ false) }
+    ensures still { IfErr result (λ e. engine.old.failed ≡ true → engine.new.failed ≡ true) }
+    ensures left { IfErr result (λ e. FailsOrStays e (⟦<Engine<G, T, M> as Stepper<D>>⟧.failed engine.new)
+        (IsUntouched D.Disk ⟦<Engine<G, T, M> as Stepper<D>>⟧.kv ⟦<Engine<G, T, M> as Stepper<D>>⟧.log ⟦<Engine<G, T, M> as Stepper<D>>⟧.weight ⟦<Engine<G, T, M> as Stepper<D>>⟧.ready ⟦<Engine<G, T, M> as Stepper<D>>⟧.rests engine.old engine.new disk.old disk.new)) }
 {
     let index = engine.state.last_applied().index + 1;
     let term = current_term::<D, T>(&engine.meta);
     let chunk = [Entry::of(index, term, moment, command)];
     engine.log.persist_entries(disk, &chunk)?;
+    // The log has an entry that the map lacks.
+    engine.failed = true;
     let results = apply_at_rest(&mut engine.state, disk, &chunk)?;
+    engine.failed = false;
     Ok(results.as_slice()[0].succeeded)
 }
 
@@ -184,6 +199,7 @@ fn answer<D: Disk, G: LogStore<D>, T: MetaStore<D>, M: StateMachine<D>>(
         (G.shown engine.old.log).value (M.map engine.old.state) engine.old.running }
     requires rests { IsTrue (D.kind disk.old).tells → AllRest ((G.shown engine.old.log).rests (D.content disk.old))
         ((T.shown engine.old.meta).rests (D.content disk.old)) (M.rests engine.old.state (D.content disk.old)) }
+    requires whole { engine.old.failed ≡ false }
     requires moment { 1 ≤ moment }
     ensures disk { DiskGoesOn D.kind D.moment D.images D.faults disk.old disk.new }
     ensures snapshot { IsTrue (D.kind disk.old).tells → SparesFamily snapshot_family D.content D.moment D.images disk.old disk.new }
@@ -192,7 +208,14 @@ fn answer<D: Disk, G: LogStore<D>, T: MetaStore<D>, M: StateMachine<D>>(
         (durable_of (T.shown engine.old.meta).value (M.map engine.old.state))
         (answer (kv_of (T.shown engine.old.meta).value (M.map engine.old.state) engine.old.running) moment frame).after.durable }
     ensures answered { IfOk result (λ reply. answer (kv_of (T.shown engine.old.meta).value (M.map engine.old.state) engine.old.running) moment frame
-        ≡ record { after = kv_of (T.shown engine.new.meta).value (M.map engine.new.state) engine.new.running; reply = Some reply; events = [] }) }
+        ≡ record {
+          after = kv_of (T.shown engine.new.meta).value (M.map engine.new.state) engine.new.running;
+          reply = Some reply;
+          events = [];
+          logged = (answer (kv_of (T.shown engine.old.meta).value (M.map engine.old.state) engine.old.running) moment frame).logged;
+        }) }
+    ensures logged { OnOk result ((G.shown engine.new.log).value ≡ appended (G.shown engine.old.log).value
+        (answer (kv_of (T.shown engine.old.meta).value (M.map engine.old.state) engine.old.running) moment frame).logged) }
     ensures ready { OnOk result (IsReady (G.shown engine.new.log).ready (T.shown engine.new.meta).ready (M.ready engine.new.state)
         (G.shown engine.new.log).value (M.map engine.new.state) engine.new.running) }
     ensures rests { OnOk result (IsTrue (D.kind disk.old).tells → AllRest ((G.shown engine.new.log).rests (D.content disk.new))
@@ -201,6 +224,9 @@ fn answer<D: Disk, G: LogStore<D>, T: MetaStore<D>, M: StateMachine<D>>(
         ≤ (G.shown engine.old.log).weight + (T.shown engine.old.meta).weight + M.weight engine.old.state + frame_rise frame) }
     ensures refused { IfErr result (λ e. IsRefusal (Rose (D.faults disk.old) (D.faults disk.new)) (D.kind disk.old).limit e) }
     ensures heavy { IfErr result (IsHeavy (D.kind disk.old).limit ((G.shown engine.old.log).weight + (T.shown engine.old.meta).weight + M.weight engine.old.state + frame_rise frame)) }
+    ensures whole { OnOk result (engine.new.failed ≡ false) }
+    ensures left { IfErr result (λ e. FailsOrStays e (⟦<Engine<G, T, M> as Stepper<D>>⟧.failed engine.new)
+        (IsUntouched D.Disk ⟦<Engine<G, T, M> as Stepper<D>>⟧.kv ⟦<Engine<G, T, M> as Stepper<D>>⟧.log ⟦<Engine<G, T, M> as Stepper<D>>⟧.weight ⟦<Engine<G, T, M> as Stepper<D>>⟧.ready ⟦<Engine<G, T, M> as Stepper<D>>⟧.rests engine.old engine.new disk.old disk.new)) }
 {
     match ask::<D, M>(engine.alloc, &engine.state, &engine.running, frame)? {
         Asked::Commit(command) => {
@@ -212,23 +238,35 @@ fn answer<D: Disk, G: LogStore<D>, T: MetaStore<D>, M: StateMachine<D>>(
 }
 
 impl<D: Disk, G: LogStore<D>, T: MetaStore<D>, M: StateMachine<D>> Stepper<D> for Engine<G, T, M> {
-    ghost use Rattle.den_core.specs.Joined.{joined_here};
+    ghost use Rattle.den_core.specs.Joined.{joined_here, failed_not_ready};
 
     ghost kv = { λ e. kv_of (T.shown e.meta).value (M.map e.state) e.running };
 
+    ghost log = { λ e. (G.shown e.log).value };
+
     ghost holds = { λ files. joined (G.holds files) (T.holds files) (M.holds files) };
+
+    ghost logs = { λ files. G.holds files };
 
     ghost rests = { λ e content. AllRest ((G.shown e.log).rests content) ((T.shown e.meta).rests content) (M.rests e.state content) };
 
-    ghost ready = { λ e. IsReady (G.shown e.log).ready (T.shown e.meta).ready (M.ready e.state) (G.shown e.log).value (M.map e.state) e.running };
+    ghost ready = { λ e. (e.failed ≡ false) × IsReady (G.shown e.log).ready (T.shown e.meta).ready (M.ready e.state) (G.shown e.log).value (M.map e.state) e.running };
+
+    ghost failed = { λ e. HasFailed e.failed (G.shown e.log).ready (T.shown e.meta).ready (M.ready e.state) };
 
     ghost weight = { λ e. (G.shown e.log).weight + (T.shown e.meta).weight + M.weight e.state };
 
-    ghost rests_hold = { λ e content files ready rests image. joined_here (G.holds files) (T.holds files) (M.holds files) (G.shown e.log).value (T.shown e.meta).value (M.map e.state) ready.caught_up
-        (G.lies.rests_hold e.log content files ready.log rests.log image) (T.lies.rests_hold e.meta content files ready.meta rests.meta image) (M.rests_hold e.state content files ready.state rests.state image) };
+    ghost rests_hold = { λ e content files ready rests image. joined_here (G.holds files) (T.holds files) (M.holds files) (G.shown e.log).value (T.shown e.meta).value (M.map e.state) ready.1.caught_up
+        (G.lies.rests_hold e.log content files ready.1.log rests.log image) (T.lies.rests_hold e.meta content files ready.1.meta rests.meta image) (M.rests_hold e.state content files ready.1.state rests.state image) };
+
+    ghost rests_log = { λ e content files ready rests image. G.lies.rests_hold e.log content files ready.1.log rests.log image };
+
+    ghost failed_ends = { λ e ready failed. failed_not_ready e.failed (G.shown e.log).ready (T.shown e.meta).ready (M.ready e.state) ready.0 ready.1.log ready.1.meta ready.1.state failed };
 
     fn open_at(&mut self, disk: &mut D, moment: u64) -> Result<(), Error> {
         raise(self, disk)?;
+        // The term lacks its first entry.
+        self.failed = true;
         commit(self, disk, Command::Noop, moment)?;
         Ok(())
     }
@@ -239,5 +277,12 @@ impl<D: Disk, G: LogStore<D>, T: MetaStore<D>, M: StateMachine<D>> Stepper<D> fo
             reply,
             events: Rows::of(Vec::new(self.alloc)),
         })
+    }
+
+    fn is_failed(&self) -> bool {
+        let log = self.log.is_failed();
+        let meta = self.meta.is_failed();
+        let state = self.state.is_failed();
+        self.failed | log | meta | state
     }
 }

@@ -100,7 +100,7 @@ fn serve_frame<D: Disk, L: Link, S: Stepper<D>>(
         → Survives S.holds (D.images disk.new) (D.moment disk.old) (D.moment disk.new) (added (L.sent link.old) (L.sent link.new))
         (S.kv stepper.old) (turn (S.kv stepper.old) frame moment) }
     ensures whole { OnOk result (IsTrue (L.tells link.old)
-        → IsWhole (added (L.sent link.old) (L.sent link.new)) (S.kv stepper.old) (turn (S.kv stepper.old) frame moment) (S.kv stepper.new)) }
+        → IsWhole (added (L.sent link.old) (L.sent link.new)) (S.kv stepper.old) (S.log stepper.old) (turn (S.kv stepper.old) frame moment) (S.kv stepper.new) (S.log stepper.new)) }
     ensures ready { OnOk result (S.ready stepper.new) }
     ensures rests { OnOk result (IsTrue (D.kind disk.old).tells → S.rests stepper.new (D.content disk.new)) }
     ensures weight { OnOk result (S.weight stepper.new ≤ S.weight stepper.old + frame_rise frame) }
@@ -135,11 +135,11 @@ pub fn serve<D: Disk, L: Link, C: Clock, S: Stepper<D>>(
         → Survives S.holds (D.images disk.new) (D.moment disk.old) (D.moment disk.new) (added (L.sent link.old) (L.sent link.new))
         (S.kv stepper.old) (turns (S.kv stepper.old) (frames limit (L.left link.old)) (added (C.readings clock.old) (C.readings clock.new))) }
 
-    // At Ok all turns were made, and exactly what they answer was sent.
+    // At Ok all turns were made, exactly what they answer was sent, and their entries are in the log.
     ensures done { OnOk result (Tells (D.kind disk.old).tells (L.tells link.old) (C.tells clock.new)
         → IsDone (L.left link.new) (length (added (C.readings clock.old) (C.readings clock.new))) (length (frames limit (L.left link.old)))
-        (added (L.sent link.old) (L.sent link.new)) (S.kv stepper.old)
-        (turns (S.kv stepper.old) (frames limit (L.left link.old)) (added (C.readings clock.old) (C.readings clock.new))) (S.kv stepper.new)) }
+        (added (L.sent link.old) (L.sent link.new)) (S.kv stepper.old) (S.log stepper.old)
+        (turns (S.kv stepper.old) (frames limit (L.left link.old)) (added (C.readings clock.old) (C.readings clock.new))) (S.kv stepper.new) (S.log stepper.new)) }
     ensures ready { OnOk result (S.ready stepper.new) }
     ensures rests { OnOk result (IsTrue (D.kind disk.old).tells → S.rests stepper.new (D.content disk.new)) }
     ensures refused { IfErr result (λ e. IsServeRefusal (Rose (D.faults disk.old) (D.faults disk.new)) (Rose (L.faults link.old) (L.faults link.new)) (D.kind disk.old).limit e) }
@@ -172,11 +172,11 @@ pub fn run_from<D: Disk, L: Link, C: Clock, S: Stepper<D>>(
     requires term { (S.kv stepper.old).durable.term < 2 ^ 64 - 1 }
     requires index { (S.kv stepper.old).durable.last_index < 2 ^ 64 - 1 }
 
-    // At Ok exactly the plan's output was sent, and its end is on the disk.
+    // At Ok exactly the plan's output was sent, and its end is on the disk, with the plan's entries in the log.
     ensures served { OnOk result (Tells (D.kind disk.old).tells (L.tells link.old) (C.tells clock.new)
         → let readings = added (C.readings clock.old) (C.readings clock.new) in
-        IsServed S.holds (D.images disk.new) (D.moment disk.new) (L.left link.new) (length readings) (length (frames limit (L.left link.old)))
-        (added (L.sent link.old) (L.sent link.new)) (S.kv stepper.old) (plan (S.kv stepper.old) (frames limit (L.left link.old)) readings)) }
+        IsServed S.holds S.logs (D.images disk.new) (D.moment disk.new) (L.left link.new) (length readings) (length (frames limit (L.left link.old)))
+        (added (L.sent link.old) (L.sent link.new)) (S.kv stepper.old) (S.log stepper.old) (plan (S.kv stepper.old) (frames limit (L.left link.old)) readings)) }
 
     // At every exit, and after a crash at any moment, inside a call too, the disk stands for the state after a prefix
     // of the plan that holds each step of which a byte was sent.

@@ -1,5 +1,7 @@
 use Rattle.den_core.specs.Joined.{durable_is}
 use Rattle.den_core.proofs.Spared.{gives_now, gives_old, all_give, spares_still}
+use Rattle.std.proofs.Common.{inl, refl}
+use Rattle.den_core.proofs.Refusing.{at_exit}
 use Rattle.den_core.proofs.engine.answer.Goals as goal
 
 -- nothing was done
@@ -36,3 +38,12 @@ returns-in_err-command-clause-snapshot g c = λ told. spares_still _ _ _ _ _
 
 pub returns-in-Say-clause-snapshot : goal.returns-in-Say-clause-snapshot
 returns-in-Say-clause-snapshot g c = λ told. spares_still _ _ _ _ _
+
+-- nothing was done
+pub returns-in_err-command-clause-left : goal.returns-in_err-command-clause-left
+returns-in_err-command-clause-left g c = at_exit c.from_residual.result c.in_err-command.field-0.0 _ c.from_residual.ensures.1
+    (inl (c.in_err-command.ensures.refused, record { same_kv = refl; same_log = refl; same_weight = refl; same_disk = refl; stays_ready = λ ready. ready; stays_at_rest = λ told rests. rests }))
+
+pub returns-in_err-succeeded-in-Commit-clause-left : goal.returns-in_err-succeeded-in-Commit-clause-left
+returns-in_err-succeeded-in-Commit-clause-left g c =
+    at_exit c.from_residual-in_err-succeeded-in-Commit.result c.in_err-succeeded-in-Commit.field-0.0 _ c.from_residual-in_err-succeeded-in-Commit.ensures.1 c.in_err-succeeded-in-Commit.ensures.left

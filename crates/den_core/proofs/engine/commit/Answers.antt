@@ -1,4 +1,4 @@
-use Rattle.std.proofs.Common.{IsTrue, [], ◌∷◌, Some, refl, sym, ap, subst, ◌∙◌, arith}
+use Rattle.std.proofs.Common.{IsTrue, [], ◌∷◌, ◌+◌, Some, inl, inr, refl, sym, ap, subst, ◌∙◌, arith}
 use Rattle.den_disk.specs.Families.{OldOrNew}
 use Rattle.den_journal.proofs.Moving.{old_or_new}
 use Rattle.den_disk.specs.Files.{Kind}
@@ -11,6 +11,8 @@ use Rattle.den_core.specs.Parts.{durable_of}
 use Rattle.den_core.proofs.Durables.{logged_is, applied_again, caught_up_now, next_is}
 use Rattle.den_core.proofs.Spared.{gives_now, spared, apart_own, log_moves, state_moves, moves_then, meta_log, state_log, log_state, meta_state, snapshot_log, snapshot_state, spares_by, spares_twice}
 use Rattle.den_core.proofs.Weighing.{entry_is, heavier_out}
+use Rattle.den_core.proofs.Refusing.{at_exit, fails_or_stays, untouched_only}
+use Rattle.den_core.specs.Parts.{IsCaughtUp}
 use Rattle.den_core.proofs.engine.commit.Goals as goal
 
 -- the entry joined the log, or did not
@@ -179,3 +181,41 @@ returns-clause-logged g c =
     let l = (g.G.LogStore.shown engine.log).value in
     let is = next_is (g.T.MetaStore.shown engine.meta).value (g.M.StateMachine.map engine.state) engine.running _ _ c.args.moment c.args.command c.of.result c.of.ensures (ap (λ i. i.index) c.last_applied-index.ensures) c.current_term-term.ensures in
     c.in_ok-persist_entries.ensures.writes.done.value ∙ ap (λ e. changed l (Append (e ∷ []))) is
+
+-- ---- what a refusal leaves
+
+pub returns-in_err-persist_entries-clause-left : goal.returns-in_err-persist_entries-clause-left
+returns-in_err-persist_entries-clause-left g c =
+    let D = g.D.Disk in
+    let engine = c.args.engine.now in
+    let refused = c.in_err-persist_entries.ensures.writes.refused in
+    at_exit c.from_residual.result c.in_err-persist_entries.field-0.0 _ c.from_residual.ensures.1
+    (fails_or_stays _ _ c.in_err-persist_entries.field-0.0 _ _ refused.cause
+    (λ memory.
+    let same = untouched_only (λ lost. lost.may_be) (refused.untouched memory) in
+    record {
+      same_kv = refl;
+      same_log = same.same_value;
+      same_weight = ap (λ n. n + (g.T.MetaStore.shown engine.meta).weight + g.M.StateMachine.weight engine.state) same.same_weight;
+      same_disk = same.same_disk;
+      stays_ready = λ ready. (
+        ready.0,
+        record {
+          log = same.ready;
+          meta = ready.1.meta;
+          state = ready.1.state;
+          caught_up = subst (λ l. IsCaughtUp l (g.M.StateMachine.map engine.state)) (sym same.same_value) ready.1.caught_up;
+          plain = ready.1.plain;
+        },
+      );
+      stays_at_rest = λ told rests. record {
+        log = same.rests told;
+        meta = subst (λ d. (g.T.MetaStore.shown engine.meta).rests (D.content d)) (sym same.same_disk) rests.meta;
+        state = subst (λ d. g.M.StateMachine.rests engine.state (D.content d)) (sym same.same_disk) rests.state;
+      };
+    })
+    (λ disk. inr (inl (refused.failed disk))))
+
+-- the log has the entry, and the map may lack it
+pub returns-in_err-results-clause-left : goal.returns-in_err-results-clause-left
+returns-in_err-results-clause-left g c = at_exit c.from_residual-in_err-results.result c.in_err-results.field-0.0 _ c.from_residual-in_err-results.ensures.1 (inr (inl refl))

@@ -1,10 +1,12 @@
-use Rattle.std.proofs.Common.{◌+◌, Some, refl, ap, ◌∙◌, arith}
+use Rattle.std.proofs.Common.{◌+◌, Some, inl, inr, refl, sym, ap, subst, ◌∙◌, arith}
 use Rattle.std.proofs.lemmas.Result.{on_ok_weaker, IfErr-weaker}
 use Rattle.den_model.specs.MapState.{part_of}
 use Rattle.den_journal.proofs.Moving.{old_or_new}
 use Rattle.den_core.specs.Joined.{durable_is}
 use Rattle.den_core.proofs.Spared.{gives_now, spared, apart_own, meta_moves, log_meta, state_meta, snapshot_meta, spares_by}
 use Rattle.den_core.proofs.Weighing.{hard_state_length, heavier}
+use Rattle.den_core.specs.Parts.{kv_of}
+use Rattle.den_core.proofs.Refusing.{fails_or_stays, if_err_weaker, untouched_only}
 use Rattle.den_core.proofs.engine.raise.Goals as goal
 
 -- the hard state was saved, or was not
@@ -44,3 +46,26 @@ returns-clause-heavy g c = IfErr-weaker c.save_hard_state.result _ _ (λ e refus
 
 pub returns-clause-snapshot : goal.returns-clause-snapshot
 returns-clause-snapshot g c = λ told. spares_by _ _ _ _ _ _ _ snapshot_meta ((c.save_hard_state.ensures.writes.moves told).spares) ((c.save_hard_state.ensures.writes.moves told).others)
+
+pub returns-clause-left : goal.returns-clause-left
+returns-clause-left g c = if_err_weaker c.save_hard_state.result _ _
+    (λ e refused.
+    let D = g.D.Disk in
+    let engine = c.args.engine.now in
+    fails_or_stays _ _ e _ _ refused.cause
+    (λ memory.
+    let same = untouched_only (λ lost. lost.may_be) (refused.untouched memory) in
+    record {
+      same_kv = ap (λ h. kv_of h (g.M.StateMachine.map engine.state) engine.running) same.same_value;
+      same_log = refl;
+      same_weight = ap (λ n. (g.G.LogStore.shown engine.log).weight + n + g.M.StateMachine.weight engine.state) same.same_weight;
+      same_disk = same.same_disk;
+      stays_ready = λ ready. (ready.0, record { log = ready.1.log; meta = same.ready; state = ready.1.state; caught_up = ready.1.caught_up; plain = ready.1.plain });
+      stays_at_rest = λ told rests. record {
+        log = subst (λ d. (g.G.LogStore.shown engine.log).rests (D.content d)) (sym same.same_disk) rests.log;
+        meta = same.rests told;
+        state = subst (λ d. g.M.StateMachine.rests engine.state (D.content d)) (sym same.same_disk) rests.state;
+      };
+    })
+    (λ disk. inr (inr (inl (refused.failed disk)))))
+    c.save_hard_state.ensures.writes.refused

@@ -39,7 +39,8 @@ returns-clause-served g c = on_ok_three c.serve.result (λ done ready rests told
     runs_whole g.S.Stepper.holds _ (frames c.args.limit (g.L.Link.left c.args.link.now)) _ _ _ _ _ c.max-moment.ensures (opening.survives told.disk_tells)
     _ _ _ _ _ _ _ (opening.disk.told told.disk_tells).later on.later on.past
     (c.now.ensures.told (c.serve.ensures.clock.told told.clock_tells)) (c.serve.ensures.clock.grows told.clock_tells) opening.state
-    _ _ (done here) stands) c.serve.ensures.done c.serve.ensures.ready c.serve.ensures.rests
+    g.S.Stepper.logs _ _ _ _ _ opening.logged (done here) stands
+    (λ files at. g.met.S.Stepper.rests_log s (g.D.Disk.content disk) files ready (rests here.disk_tells) ((g.met.D.Disk.images_now disk files then).0 at))) c.serve.ensures.done c.serve.ensures.ready c.serve.ensures.rests
 
 pub returns-clause-snapshot : goal.returns-clause-snapshot
 returns-clause-snapshot g c = spares_twice _ _ _ _ _ _ _ _ _ c.open_at.ensures.disk c.serve.ensures.disk c.open_at.ensures.snapshot c.serve.ensures.snapshot

@@ -23,7 +23,7 @@ frames-init g c = record {
   so_far = λ told.
       let disk = c.args.disk.now in
       let s = c.args.stepper.now in
-      begins g.S.Stepper.holds _ _ _ (g.C.Clock.readings c.args.clock.now) (g.L.Link.sent c.args.link.now) _ (stands_now _ _ _ (g.D.Disk.content disk) _ (λ files. g.met.D.Disk.images_now disk files told.disk_tells)
+      begins g.S.Stepper.holds _ _ _ (g.C.Clock.readings c.args.clock.now) (g.L.Link.sent c.args.link.now) _ (g.S.Stepper.log s) (stands_now _ _ _ (g.D.Disk.content disk) _ (λ files. g.met.D.Disk.images_now disk files told.disk_tells)
       (λ files. g.met.S.Stepper.rests_hold s (g.D.Disk.content disk) files c.requires.ready (c.requires.rests told.disk_tells)));
 }
 
@@ -32,7 +32,7 @@ pub returns-in_default-clause-done : goal.returns-in_default-clause-done
 returns-in_default-clause-done g c = λ told.
     let inv = c.frames.invariant in
     let link_tells : IsTrue (g.L.Link.tells c.frames.link) = subst (λ b. IsTrue b) (sym inv.link.same) told.link_tells in
-    done_over g.S.Stepper.holds _ _ _ _ _ _ _ _ _ _ _ _ _ (inv.so_far told) (found_none _ _ _ _ c.in_default.is (c.in_ok-found.ensures.found link_tells)) (c.next.ensures.sent link_tells)
+    done_over g.S.Stepper.holds _ _ _ _ _ _ _ _ _ _ _ _ _ _ _ (inv.so_far told) (found_none _ _ _ _ c.in_default.is (c.in_ok-found.ensures.found link_tells)) (c.next.ensures.sent link_tells)
 
 -- a frame was begun
 pub returns-in_err-serve_frame-clause-survives : goal.returns-in_err-serve_frame-clause-survives
@@ -44,7 +44,7 @@ returns-in_err-serve_frame-clause-survives g c = λ told.
     let disk_tells : IsTrue (g.D.Disk.kind c.frames.disk).tells = subst (λ (k : Kind). IsTrue k.tells) (sym inv.disk.same) told.disk_tells in
     let then_tells : IsTrue (g.L.Link.tells c.next.new.link) = subst (λ b. IsTrue b) (sym c.next.ensures.on.same) link_tells in
     let on = c.serve_frame.ensures.disk.told disk_tells in
-    begun_over g.S.Stepper.holds _ _ _ _ _ _ _ _ _ _ _ _ _ _ _ _ _ _ _ _
+    begun_over g.S.Stepper.holds _ _ _ _ _ _ _ _ _ _ _ _ _ _ _ _ _ _ _ _ _ _
     (inv.disk.told told.disk_tells).later on.later on.past
     (inv.clock.grows before.clock_tells) (c.now.ensures.told told.clock_tells) c.max-moment.ensures
     (inv.link.grows told.link_tells) (c.next.ensures.sent link_tells) (c.serve_frame.ensures.link.grows then_tells)
@@ -82,7 +82,7 @@ frames-preserved g c =
           let disk_tells : IsTrue (g.D.Disk.kind c.frames.disk).tells = subst (λ (k : Kind). IsTrue k.tells) (sym inv.disk.same) told.disk_tells in
           let then_tells : IsTrue (g.L.Link.tells c.next.new.link) = subst (λ b. IsTrue b) (sym c.next.ensures.on.same) link_tells in
           let on = c.serve_frame.ensures.disk.told disk_tells in
-          served_over g.S.Stepper.holds _ _ _ _ _ _ _ _ _ _ _ _ _ _ _ _ _ _ _ _
+          served_over g.S.Stepper.holds _ _ _ _ _ _ _ _ _ _ _ _ _ _ _ _ _ _ _ _ _ _
           (inv.disk.told told.disk_tells).later on.later on.past
           (inv.clock.grows before.clock_tells) (c.now.ensures.told told.clock_tells) c.max-moment.ensures
           (inv.link.grows told.link_tells) (c.next.ensures.sent link_tells) (c.serve_frame.ensures.link.grows then_tells)
@@ -90,7 +90,7 @@ frames-preserved g c =
           (found_some _ _ _ _ _ _ inv.limit c.in-Some.is (c.in_ok-found.ensures.found link_tells)
           ∙ ap (λ left. c.in-Some.frame ∷ frames c.args.limit left) (sym (c.serve_frame.ensures.left then_tells)))
           (c.serve_frame.ensures.survives disk_tells then_tells)
-          _ (c.in_ok-serve_frame.ensures.whole then_tells);
+          _ _ (c.in_ok-serve_frame.ensures.whole then_tells);
     }
 
 pub returns-in_err-serve_frame-clause-snapshot : goal.returns-in_err-serve_frame-clause-snapshot

@@ -30,5 +30,6 @@ returns-clause-survives g c = λ disk_tells link_tells.
 pub returns-clause-whole : goal.returns-clause-whole
 returns-clause-whole g c = λ link_tells. record {
   state = c.in_ok-out.ensures.state;
+  logged = c.in_ok-out.ensures.logged;
   bytes = ap bytes_of (added_is _ _ _ (c.in_ok-send_all.ensures.all link_tells)) ∙ bytes_of-stamped _ _ ∙ c.in_ok-out.ensures.answer;
 }

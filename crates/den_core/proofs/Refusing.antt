@@ -1,0 +1,79 @@
+-- What a refused call of an engine leaves.
+use Rattle.std.proofs.Common.{◌≡◌, ◌⊎◌, ◌↔◌, inl, inr, ℕ, Bool, true, false, ◌||◌, IsTrue, Result, Ok, Err, IfErr, refl, sym, subst}
+use Rattle.std.specs.Result.{IsErrAnd}
+use Rattle.den_codec.specs.declared.error.Error.{Error}
+use Rattle.den_codec.specs.declared.error.Error.TheVariants.{OutOfMemory, StorageIoError, DiskFull, LinkFault, DataCorruption, FeatureNotEnabled, ProposeFailed, UnorderedChunk, Config, StateMachineError}
+use Rattle.den_journal.specs.Causes.{IsRefusal, IsOfDisk}
+use Rattle.den_core.specs.Parts.{HasFailed}
+use Rattle.den_core.specs.Refusals.{FailsOrStays}
+
+-- memory was wanted, or the disk refused
+pub fails_or_stays : (rose : Type 0) (most : ℕ) (e : Error) (failed untouched : Type 0) → IsRefusal rose most e → (e ≡ OutOfMemory → untouched) → (IsOfDisk e → failed) → FailsOrStays e failed untouched
+fails_or_stays rose most OutOfMemory failed untouched cause memory disk = inl (refl, memory refl)
+fails_or_stays rose most StorageIoError failed untouched cause memory disk = inr (disk (record {}))
+fails_or_stays rose most (DiskFull needed limit) failed untouched cause memory disk = inr (disk (record {}))
+fails_or_stays rose most LinkFault failed untouched cause memory disk = absurd cause
+fails_or_stays rose most (DataCorruption place offset) failed untouched cause memory disk = absurd cause
+fails_or_stays rose most FeatureNotEnabled failed untouched cause memory disk = absurd cause
+fails_or_stays rose most ProposeFailed failed untouched cause memory disk = absurd cause
+fails_or_stays rose most (UnorderedChunk index) failed untouched cause memory disk = absurd cause
+fails_or_stays rose most (Config place) failed untouched cause memory disk = absurd cause
+fails_or_stays rose most StateMachineError failed untouched cause memory disk = absurd cause
+
+-- a store that does not end for want of memory
+pub untouched_only : {A B : Type 0} → (B → ⊥) → A ⊎ B → A
+untouched_only never (inl a) = a
+untouched_only never (inr lost) = absurd (never lost)
+
+-- at the exit of a call that answers its callee's refusal
+pub at_exit : {T : Type 0} (r : Result T Error) (e : Error) (P : Error → Type 0) → IsErrAnd r (λ y. y ≡ e) → P e → IfErr r P
+at_exit (Ok x) e P is h = record {}
+at_exit (Err y) e P is h = subst P (sym is) h
+
+pub if_err_weaker : {T : Type 0} (r : Result T Error) (P Q : Error → Type 0) → ((e : Error) → P e → Q e) → IfErr r P → IfErr r Q
+if_err_weaker (Ok x) P Q f h = record {}
+if_err_weaker (Err e) P Q f h = f e h
+
+-- ---- the flags of an engine and of its stores
+
+-- a flag that tells whether a store has failed
+tells_failed : (flag : Bool) (ready : Type 0) → (flag ≡ false) ↔ ready → IsTrue flag → ready → ⊥
+tells_failed true ready is set now = let bad : true ≡ false = is.1 now in cc
+tells_failed false ready is set now = cc set
+
+pub flags_tell : (failed log meta state : Bool) (a b c : Type 0) → (log ≡ false) ↔ a → (meta ≡ false) ↔ b → (state ≡ false) ↔ c
+    → IsTrue (failed || log || meta || state) → HasFailed failed a b c
+flags_tell true log meta state a b c x y z set = inl refl
+flags_tell false true meta state a b c x y z set = inr (inl (tells_failed true a x set))
+flags_tell false false true state a b c x y z set = inr (inr (inl (tells_failed true b y set)))
+flags_tell false false false state a b c x y z set = inr (inr (inr (tells_failed state c z set)))
+
+-- a store that cannot go on is told to have failed
+told_failed : (flag : Bool) (ready : Type 0) → (flag ≡ false) ↔ ready → (ready → ⊥) → flag ≡ true
+told_failed true ready is never = refl
+told_failed false ready is never = absurd (never (is.0 refl))
+
+first : (failed log meta state : Bool) → failed ≡ true → IsTrue (failed || log || meta || state)
+first failed log meta state set = subst (λ b. IsTrue (b || log || meta || state)) (sym set) refl
+
+second : (failed log meta state : Bool) → log ≡ true → IsTrue (failed || log || meta || state)
+second true log meta state set = refl
+second false log meta state set = subst (λ b. IsTrue (b || meta || state)) (sym set) refl
+
+third : (failed log meta state : Bool) → meta ≡ true → IsTrue (failed || log || meta || state)
+third true log meta state set = refl
+third false true meta state set = refl
+third false false meta state set = subst (λ b. IsTrue (b || state)) (sym set) refl
+
+fourth : (failed log meta state : Bool) → state ≡ true → IsTrue (failed || log || meta || state)
+fourth true log meta state set = refl
+fourth false true meta state set = refl
+fourth false false true state set = refl
+fourth false false false state set = subst (λ b. IsTrue b) (sym set) refl
+
+pub flags_told : (failed log meta state : Bool) (a b c : Type 0) → (log ≡ false) ↔ a → (meta ≡ false) ↔ b → (state ≡ false) ↔ c
+    → HasFailed failed a b c → IsTrue (failed || log || meta || state)
+flags_told failed log meta state a b c x y z (inl flag) = first failed log meta state flag
+flags_told failed log meta state a b c x y z (inr (inl lost)) = second failed log meta state (told_failed log a x lost)
+flags_told failed log meta state a b c x y z (inr (inr (inl lost))) = third failed log meta state (told_failed meta b y lost)
+flags_told failed log meta state a b c x y z (inr (inr (inr lost))) = fourth failed log meta state (told_failed state c z lost)
