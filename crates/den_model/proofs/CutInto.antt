@@ -8,7 +8,7 @@ use Rattle.den_model.specs.declared.request.Frame.{Frame}
 use Rattle.den_model.specs.declared.request.Frame.TheVariants.{Bad}
 use Rattle.den_model.specs.Spelling.{u64_word}
 use Rattle.den_model.specs.Reading.{size_at}
-use Rattle.den_model.specs.Frames.{framed, frame_of, frames, frames_behind, IsTorn, IsCutInto}
+use Rattle.den_model.specs.Frames.{framed, frames, frames_behind, IsTorn, IsCutInto}
 use Rattle.den_model.specs.Words.{IsBytes}
 use Rattle.den_model.proofs.Cut.{size_again, length_word, drop_word, frames_front, frames_short, cut_frame}
 use Rattle.den_model.proofs.Spells.{IsBytes-behind, spells_u64}

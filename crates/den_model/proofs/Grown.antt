@@ -21,7 +21,7 @@ use Rattle.den_model.specs.Grown.{appended, IsGrownBy, IsLogAfter}
 use Rattle.den_model.specs.Kv.{Kv}
 use Rattle.den_model.specs.Log.{Log, floor, above, below, changed}
 use Rattle.den_model.specs.Plan.{after, logged}
-use Rattle.den_model.specs.Step.{Step, Raise, Noop, Cleanup, Ask, Outcome, step, answer, says, failed, invalid, not_leader, leads, has_ttl, may_be_old, carried, write, read, is_prefix, is_full, command_of}
+use Rattle.den_model.specs.Step.{Step, Raise, Noop, Cleanup, Ask, Outcome, step, answer, answer_to, is_built, not_built, says, failed, invalid, not_leader, leads, has_ttl, may_be_old, carried, write, read, is_prefix, is_full, command_of}
 use Rattle.den_model.proofs.Runs.{after_append, logged_append}
 
 -- ---- entries above an index
@@ -132,7 +132,7 @@ operation_counts : (s : Kv) (moment : ℕ) (operation : Option WriteOperation) �
 operation_counts s moment None = omega arith
 operation_counts s moment (Some o) = write_counts s moment (command_of o)
 
-request_counts : (s : Kv) (moment : ℕ) (r : Request) → Counts s (answer s moment (Good r))
+request_counts : (s : Kv) (moment : ℕ) (r : Request) → Counts s (answer_to s moment r)
 request_counts s moment (request.Write w) = operation_counts s moment w.command
 request_counts s moment (request.Read r) = read_counts s r.consistency_policy r.keys
 request_counts s moment (request.Scan client_id prefix) = if_counts s (leads s) _ (not_leader s) (omega arith) (omega arith)
@@ -143,7 +143,7 @@ request_counts s moment (request.Members client_id) = omega arith
 
 answer_counts : (s : Kv) (moment : ℕ) (frame : Frame) → Counts s (answer s moment frame)
 answer_counts s moment Bad = omega arith
-answer_counts s moment (Good r) = request_counts s moment r
+answer_counts s moment (Good r) = if_counts s (is_built r) (answer_to s moment r) (not_built s) (request_counts s moment r) (omega arith)
 
 step_counts : (s : Kv) (x : Step) → Counts s (step s x)
 step_counts s Raise = omega arith
