@@ -2,7 +2,7 @@
 use Rattle.std.specs.Prelude.{◌≡◌, ◌++◌, ◌==◌, ℕ, List, [], codes, decimal, Option, Some, None, Result, Ok, Err, if◌then◌else◌}
 use Rattle.den_disk.specs.Goes.{IsPrefix}
 use Rattle.den_codec.specs.declared.error.Error.{Error}
-use Rattle.den_codec.specs.declared.error.Error.TheVariants.{OutOfMemory, StorageIoError, DiskFull, LinkFault, DataCorruption, FeatureNotEnabled, ProposeFailed}
+use Rattle.den_codec.specs.declared.error.Error.TheVariants.{OutOfMemory, StorageIoError, DiskFull, LinkFault, DataCorruption, FeatureNotEnabled, ProposeFailed, UnorderedChunk, Config, StateMachineError}
 
 abbrev pub status_of_error : Error → ℕ
 status_of_error OutOfMemory = 1
@@ -12,7 +12,9 @@ status_of_error (DiskFull needed limit) = 7
 status_of_error (DataCorruption place offset) = 8
 status_of_error FeatureNotEnabled = 9
 status_of_error ProposeFailed = 10
-status_of_error _ = 1
+status_of_error (UnorderedChunk index) = 1
+status_of_error (Config place) = 1
+status_of_error StateMachineError = 1
 
 -- the status of a run's answer, or of words that do not parse
 abbrev pub status_of : Option (Result (Unit {0}) Error) → ℕ
@@ -54,7 +56,9 @@ line_of_error (DiskFull needed limit) = codes "den_server: disk limit reached\n"
 line_of_error (DataCorruption place offset) = corruption_line place offset
 line_of_error FeatureNotEnabled = codes "den_server: lease is not enabled\n"
 line_of_error ProposeFailed = codes "den_server: term or index exhausted\n"
-line_of_error _ = codes "den_server: out of memory\n"
+line_of_error (UnorderedChunk index) = codes "den_server: out of memory\n"
+line_of_error (Config place) = codes "den_server: out of memory\n"
+line_of_error StateMachineError = codes "den_server: out of memory\n"
 
 -- the line of a run's answer, or of words that do not parse; empty where all went well
 abbrev pub line_of : Option (Result (Unit {0}) Error) → List ℕ
@@ -78,7 +82,15 @@ status_line status place offset =
 -- an error whose line names no file
 abbrev pub IsFixed : Error → Type 0
 IsFixed (DataCorruption place offset) = ⊥
-IsFixed _ = Unit {0}
+IsFixed OutOfMemory = Unit {0}
+IsFixed StorageIoError = Unit {0}
+IsFixed (DiskFull needed limit) = Unit {0}
+IsFixed LinkFault = Unit {0}
+IsFixed FeatureNotEnabled = Unit {0}
+IsFixed ProposeFailed = Unit {0}
+IsFixed (UnorderedChunk index) = Unit {0}
+IsFixed (Config place) = Unit {0}
+IsFixed StateMachineError = Unit {0}
 
 -- a front of the line joined what was written
 abbrev pub IsWrittenFront : (line old new : List ℕ) → Type 0

@@ -9,8 +9,9 @@ ghost use Rattle.den_codec.specs.declared.error.Error.TheVariants.{OutOfMemory};
 ghost use Rattle.den_codec.specs.Standard.{IsStandard};
 ghost use Rattle.den_model.specs.Crash.{Survives, Stands, IsServed, Tells, bytes_of};
 ghost use Rattle.den_model.specs.Frames.{frames};
-ghost use Rattle.den_model.specs.Image.{durable_in};
+ghost use Rattle.den_model.specs.Image.{durable_in, log_in, ok};
 ghost use Rattle.den_model.specs.Kv.{Durable};
+ghost use Rattle.den_model.specs.Log.{Log};
 ghost use Rattle.den_model.specs.Plan.{output, plan_over};
 ghost use Rattle.den_model.specs.Sizes.{files_size};
 ghost use Rattle.den_server.specs.Causes.{IsFullOf, IsMuch, IsRunRefusal, IsTurnedAway};
@@ -46,11 +47,11 @@ fn serve_words<D: Disk, L: Link, C: Clock>(
     link: &mut L,
     clock: &mut C,
 ) -> Answer
-    ensures served { (kept : Durable) → result ≡ Some (Ok tt) → Tells (D.kind disk.old).tells (L.tells link.old) (C.tells clock.new)
-        → durable_in (D.content disk.old).reading ≡ Some kept
+    ensures served { (kept : Durable) (log : Log) → result ≡ Some (Ok tt) → Tells (D.kind disk.old).tells (L.tells link.old) (C.tells clock.new)
+        → durable_in (D.content disk.old).reading ≡ Some kept → log_in (D.content disk.old).reading ≡ Ok log
         → let readings = added (C.readings clock.old) (C.readings clock.new) in
-        IsServed durable_in (D.images disk.new) (D.moment disk.new) (L.left link.new) (length readings) (length (frames frame_limit (L.left link.old)))
-        (added (L.sent link.old) (L.sent link.new)) (start kept) (plan_over (start kept) frame_limit (L.left link.old) readings) }
+        IsServed durable_in (λ files. ok (log_in files)) (D.images disk.new) (D.moment disk.new) (L.left link.new) (length readings) (length (frames frame_limit (L.left link.old)))
+        (added (L.sent link.old) (L.sent link.new)) (start kept) log (plan_over (start kept) frame_limit (L.left link.old) readings) }
     ensures prefix { (kept : Durable) → Tells (D.kind disk.old).tells (L.tells link.old) (C.tells clock.new)
         → durable_in (D.content disk.old).reading ≡ Some kept
         → IsPrefix (bytes_of (added (L.sent link.old) (L.sent link.new)))
@@ -105,12 +106,12 @@ pub fn serve_main<D: Disk, L: Link, C: Clock, S: Source, E: Sink>(
     errs: &mut E,
 ) -> u8
     // Status 0: the input was read to its end, one reading was taken at opening and one for each frame, exactly the plan's
-    // output was sent, and each image of the disk stands for the plan's end.
-    ensures served { (kept : Durable) → result ≡ 0 → Tells (D.kind disk.old).tells (L.tells link.old) (C.tells clock.new)
-        → durable_in (D.content disk.old).reading ≡ Some kept
+    // output was sent, and each image of the disk stands for the plan's end, with the plan's entries in the log.
+    ensures served { (kept : Durable) (log : Log) → result ≡ 0 → Tells (D.kind disk.old).tells (L.tells link.old) (C.tells clock.new)
+        → durable_in (D.content disk.old).reading ≡ Some kept → log_in (D.content disk.old).reading ≡ Ok log
         → let readings = added (C.readings clock.old) (C.readings clock.new) in
-        IsServed durable_in (D.images disk.new) (D.moment disk.new) (L.left link.new) (length readings) (length (frames frame_limit (L.left link.old)))
-        (added (L.sent link.old) (L.sent link.new)) (start kept) (plan_over (start kept) frame_limit (L.left link.old) readings) }
+        IsServed durable_in (λ files. ok (log_in files)) (D.images disk.new) (D.moment disk.new) (L.left link.new) (length readings) (length (frames frame_limit (L.left link.old)))
+        (added (L.sent link.old) (L.sent link.new)) (start kept) log (plan_over (start kept) frame_limit (L.left link.old) readings) }
 
     // At every exit what was sent is a front of the plan's output.
     ensures prefix { (kept : Durable) → Tells (D.kind disk.old).tells (L.tells link.old) (C.tells clock.new)

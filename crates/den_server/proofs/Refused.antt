@@ -21,7 +21,7 @@ use Rattle.den_store.specs.Engine.{IsFirstCorrupt}
 use Rattle.den_journal.specs.Folding.{IsUnread}
 use Rattle.den_core.specs.Opening.{refusal_for, opening_refusal, is_exhausted, IsOpeningFailure}
 use Rattle.den_server.specs.Causes.{IsUnreadFolder, IsOpeningRefusal}
-use Rattle.den_server.specs.Opening.{lease_asked, refusal_of, refusal_in, IsRead}
+use Rattle.den_server.specs.Opening.{lease_asked, refusal_in, IsRead}
 
 -- ---- the definition, by what each family gives
 
@@ -37,10 +37,10 @@ unfolding recovered
 recovered_is files = refl
 
 abbrev by_parts : Files → Result Log ℕ → Result (Option HardState) ℕ → Result MapState ℕ → Option Error
-by_parts files a b c = refusal_of (lease_asked a c) (joint files a b c)
+by_parts files a b c = refusal_for (lease_asked a c) (joint files a b c)
 
 refusal_is : (files : Files) → refusal_in files ≡ by_parts files (log_in files) (hard_state_held files) (map_in files)
-refusal_is files = ap (refusal_of (lease_asked (log_in files) (map_in files))) (recovered_is files)
+refusal_is files = ap (refusal_for (lease_asked (log_in files) (map_in files))) (recovered_is files)
 
 log_unread : (files : Files) (place offset : ℕ) → place ≡ place_number (slot_of family.Log files) → log_in files ≡ Err offset → refusal_in files ≡ Some (error.DataCorruption place offset)
 log_unread files place offset at bad = refusal_is files ∙ (λ i. by_parts files (bad i) (hard_state_held files) (map_in files)) ∙ ap (λ p. Some (error.DataCorruption p offset)) (sym at)
@@ -63,15 +63,10 @@ pub state_unread : (files : Files) (l : Log) (h : Option HardState) (place offse
     → place ≡ place_number (slot_of family.State files) → map_in files ≡ Err offset → refusal_in files ≡ Some (error.DataCorruption place offset)
 state_unread files l h place offset log meta at bad = refusal_is files ∙ (λ i. by_parts files (log i) (meta i) (bad i)) ∙ ap (λ p. Some (error.DataCorruption p offset)) (sym at)
 
-join_refusal : (lease : Bool) (place : ℕ) (o : Option Durable) → refusal_of lease (or_corrupt (record { place = place; offset = 0 }) o) ≡ refusal_for place lease o
-join_refusal lease place None = refl
-join_refusal lease place (Some d) = refl
-
 pub read_refusal : (files : Files) (l : Log) (h : Option HardState) (s : MapState) (place : ℕ) → IsRead files l h s → place ≡ place_number (slot_of family.Log files)
     → refusal_in files ≡ opening_refusal place l h s
 read_refusal files l h s place read at =
     refusal_is files ∙ (λ i. by_parts files (read.log i) (read.hard_state i) (read.map i))
-    ∙ join_refusal (has_expiry s || asks_lease (above s.mark.index l.entries)) (place_number (slot_of family.Log files)) (durable l h s)
     ∙ ap (λ p. opening_refusal p l h s) (sym at)
 
 pub read_durable : (files : Files) (l : Log) (h : Option HardState) (s : MapState) → IsRead files l h s → durable_in files ≡ durable l h s
@@ -160,7 +155,7 @@ some_is e d p = cc p
 
 -- a refusal is one of three
 refusal_kind : (P : Error → Type 0) (place : ℕ) (lease : Bool) (d : Option Durable) (e : Error) → P (error.DataCorruption place 0) → P error.FeatureNotEnabled → P error.ProposeFailed
-    → refusal_for place lease d ≡ Some e → P e
+    → refusal_for lease (or_corrupt (record { place = place; offset = 0 }) d) ≡ Some e → P e
 refusal_kind P place lease None e corrupt feature propose p = subst P (some_is e (error.DataCorruption place 0) p) corrupt
 refusal_kind P place true (Some d) e corrupt feature propose p = subst P (some_is e error.FeatureNotEnabled p) feature
 refusal_kind P place false (Some d) e corrupt feature propose p = exhausted (is_exhausted d) p where

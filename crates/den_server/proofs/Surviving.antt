@@ -1,10 +1,11 @@
 -- An opening, and the run behind it.
-use Rattle.std.proofs.Common.{◌≡◌, ◌⊎◌, ⊎_elim, ◌↔◌, ℕ, ◌≤◌, ◌<◌, ◌+◌, List, [], ◌∷◌, ◌++◌, length, take, drop, Option, Some, refl, sym, ◌∙◌, ap, subst, append_assoc, arith}
+use Rattle.std.proofs.Common.{◌≡◌, ◌⊎◌, ⊎_elim, ◌↔◌, ℕ, ◌≤◌, ◌<◌, ◌+◌, List, [], ◌∷◌, ◌++◌, length, take, drop, Option, Some, Result, Ok, refl, sym, ◌∙◌, ap, subst, append_assoc, arith}
 use Rattle.std.proofs.lemmas.Bool.{cases_lt}
 use Rattle.den_disk.specs.Files.{Files, Content, IsImage}
 use Rattle.den_disk.specs.Goes.{IsPrefix, added}
 use Rattle.den_disk.proofs.Images.{itself}
 use Rattle.den_model.specs.Kv.{Durable, Kv}
+use Rattle.den_model.specs.Log.{Log}
 use Rattle.den_model.specs.Step.{Step}
 use Rattle.den_model.specs.Plan.{after, output, plan_over}
 use Rattle.den_model.specs.Image.{durable_in}
@@ -42,7 +43,7 @@ module _ (holds : Files → Option Durable) where
     reached = λ o. omega (arith, early);
     none = λ lt. absurd (omega (arith, early));
     before = λ t files begun less ended at. s.before t files begun less (omega (arith, early)) (past t files (omega (arith, early)) at);
-    behind = goes_on holds mid_images images s.synced mid to [] sent kv kv [] (steps kv) early high past s.behind (record { state = refl; bytes = refl })
+    behind = goes_on holds mid_images images s.synced mid to [] sent kv kv [] (steps kv) early high past s.behind refl refl
         (subst (λ (k : Kv). Survives holds images mid to sent k (steps k)) equal run);
   }
 
@@ -94,7 +95,13 @@ module _ (holds : Files → Option Durable) where
       (λ early. front_sent images s.synced to sent kv steps files early at s.behind)
       (cases_lt to s.synced)
 
--- a run from an equal state
-pub served_from : (images : ℕ → Files → Type 0) (to : ℕ) (left : List ℕ) (readings cut : ℕ) (sent : List (ℕ × ℕ)) (kv other : Kv) (steps : Kv → List Step) → other ≡ kv
-    → IsServed durable_in images to left readings cut sent other (steps other) → IsServed durable_in images to left readings cut sent kv (steps kv)
-served_from images to left readings cut sent kv other steps same s = subst (λ (k : Kv). IsServed durable_in images to left readings cut sent k (steps k)) same s
+-- a run from an equal state and an equal log
+pub served_from : (logs : Files → Option Log) (images : ℕ → Files → Type 0) (to : ℕ) (left : List ℕ) (readings cut : ℕ) (sent : List (ℕ × ℕ)) (kv other : Kv) (log other_log : Log) (steps : Kv → List Step)
+    → other ≡ kv → other_log ≡ log → IsServed durable_in logs images to left readings cut sent other other_log (steps other)
+    → IsServed durable_in logs images to left readings cut sent kv log (steps kv)
+served_from logs images to left readings cut sent kv other log other_log steps same same_log s =
+    subst (λ (l : Log). IsServed durable_in logs images to left readings cut sent kv l (steps kv)) same_log
+    (subst (λ (k : Kv). IsServed durable_in logs images to left readings cut sent k other_log (steps k)) same s)
+
+pub log_same : (r : Result Log ℕ) (x y : Log) → r ≡ Ok x → r ≡ Ok y → x ≡ y
+log_same r x y p q = cc (p, q)

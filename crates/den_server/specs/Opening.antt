@@ -3,10 +3,9 @@ use Rattle.std.specs.Prelude.{◌≡◌, ◌||◌, ◌+◌, ◌*◌, ◌≤◌, 
 use Rattle.den_disk.specs.Files.{Files, Content}
 use Rattle.den_disk.specs.Families.{SparesAll}
 use Rattle.den_codec.specs.declared.error.Error.{Error}
-use Rattle.den_codec.specs.declared.error.Error.TheVariants.{DataCorruption, FeatureNotEnabled, ProposeFailed}
 use Rattle.den_model.specs.declared.log_id.HardState.{HardState}
 use Rattle.den_model.specs.Crash.{Survives}
-use Rattle.den_model.specs.Image.{Corruption, recovered, log_in, hard_state_held, map_in}
+use Rattle.den_model.specs.Image.{recovered, log_in, hard_state_held, map_in}
 use Rattle.den_model.specs.Kv.{Durable, Kv}
 use Rattle.den_model.specs.Log.{Log, above}
 use Rattle.den_model.specs.MapState.{MapState}
@@ -18,7 +17,7 @@ use Rattle.den_store.specs.FileMeta.{meta_shown}
 use Rattle.den_map.specs.Leases.{asks_lease, has_expiry}
 use Rattle.den_state.specs.declared.file_machine.FileStateMachine.{FileStateMachine}
 use Rattle.den_state.specs.Machine.{state_weight}
-use Rattle.den_core.specs.Opening.{is_exhausted}
+use Rattle.den_core.specs.Opening.{refusal_for}
 
 -- whether a key has an expiry, or an entry above the map's mark a time to live
 abbrev pub lease_asked : Result Log ℕ → Result MapState ℕ → Bool
@@ -26,14 +25,10 @@ lease_asked (Ok l) (Ok s) = has_expiry s || asks_lease (above s.mark.index l.ent
 lease_asked (Ok l) (Err place) = false
 lease_asked (Err place) s = false
 
-abbrev pub refusal_of : Bool → Result Durable Corruption → Option Error
-refusal_of lease (Err c) = Some (DataCorruption c.place c.offset)
-refusal_of lease (Ok d) = if lease then Some FeatureNotEnabled else if is_exhausted d then Some ProposeFailed else None
-
 -- Why files are refused, if they are: they stand for nothing, and where; then a lease is asked for, and none is
 -- configured; then no term or no index is left.
 abbrev pub refusal_in : Files → Option Error
-refusal_in files = refusal_of (lease_asked (log_in files) (map_in files)) (recovered files)
+refusal_in files = refusal_for (lease_asked (log_in files) (map_in files)) (recovered files)
 
 -- what log, hard state and map are read as
 pub record IsRead (files : Files) (l : Log) (h : Option HardState) (s : MapState) : Type 0 where

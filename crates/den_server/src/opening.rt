@@ -1,5 +1,5 @@
 //! The stores of a folder, opened.
-ghost use Rattle.std.specs.Prelude.{◌≡◌, ◌<◌, ◌≤◌, ◌+◌, ◌*◌, ◌-◌, ◌^◌, [], Some, None, IsTrue, IsOk, IfOk, IfErr};
+ghost use Rattle.std.specs.Prelude.{◌≡◌, ◌<◌, ◌≤◌, ◌+◌, ◌*◌, ◌-◌, ◌^◌, [], Some, None, Ok, IsTrue, IsOk, IfOk, IfErr};
 ghost use Rattle.den_disk.specs.declared.place.Family.TheVariants.{Log as log_family};
 ghost use Rattle.den_disk.specs.Place.{place_number};
 ghost use Rattle.den_disk.specs.Goes.{Rose, DiskGoesOn};
@@ -7,7 +7,7 @@ ghost use Rattle.den_disk.specs.declared.place.Family.TheVariants.{Snapshot as s
 ghost use Rattle.den_core.specs.Spared.{SparesFamily};
 ghost use Rattle.den_disk.specs.Families.{NoNewImages, SparesAll};
 ghost use Rattle.den_model.specs.Entries.{LogEntry};
-ghost use Rattle.den_model.specs.Image.{durable_in, slot_of};
+ghost use Rattle.den_model.specs.Image.{durable_in, log_in, slot_of};
 ghost use Rattle.den_model.specs.Kv.{Durable};
 ghost use Rattle.den_model.specs.Sizes.{entries_size, files_size, store_rise};
 ghost use Rattle.den_codec.specs.declared.error.Error.{Error};
@@ -115,6 +115,8 @@ pub fn open_folder<D: Disk>(
         (D.content disk.new ≡ D.content disk.old) [] (entered config.now kept) [] }
     ensures kv { IfOk result (λ engine. (kept : Durable) → IsTrue (D.kind disk.old).tells → durable_in (D.content disk.old).reading ≡ Some kept
         → ⟦<Engine<FileLogStore, FileMetaStore, FileStateMachine> as Stepper<D>>⟧.kv engine ≡ entered config.now kept) }
+    ensures log { IfOk result (λ engine. IsTrue (D.kind disk.old).tells
+        → log_in (D.content disk.old).reading ≡ Ok (⟦<Engine<FileLogStore, FileMetaStore, FileStateMachine> as Stepper<D>>⟧.log engine)) }
     ensures term { IfOk result (λ engine. (⟦<Engine<FileLogStore, FileMetaStore, FileStateMachine> as Stepper<D>>⟧.kv engine).durable.term < 2 ^ 64 - 1) }
     ensures index { IfOk result (λ engine. (⟦<Engine<FileLogStore, FileMetaStore, FileStateMachine> as Stepper<D>>⟧.kv engine).durable.last_index < 2 ^ 64 - 1) }
     ensures weight { IfOk result (λ engine. IsTrue (D.kind disk.old).tells

@@ -6,8 +6,9 @@ ghost use Rattle.den_core.specs.Spared.{SparesFamily};
 ghost use Rattle.den_disk.specs.Families.{NoNewImages};
 ghost use Rattle.den_model.specs.Crash.{Survives, Stands, IsServed, Tells, bytes_of};
 ghost use Rattle.den_model.specs.Frames.{frames};
-ghost use Rattle.den_model.specs.Image.{durable_in};
+ghost use Rattle.den_model.specs.Image.{durable_in, log_in, ok};
 ghost use Rattle.den_model.specs.Kv.{Durable};
+ghost use Rattle.den_model.specs.Log.{Log};
 ghost use Rattle.den_model.specs.Plan.{output, plan_over};
 ghost use Rattle.den_model.specs.Sizes.{files_size};
 ghost use Rattle.den_codec.specs.declared.error.Error.{Error};
@@ -39,14 +40,14 @@ impl StandaloneEngine {
         config: &SoloConfig,
     ) -> Result<(), Error>
         // At Ok the input was read to its end, one reading was taken at opening and one for each frame, exactly the
-        // plan's output was sent, and each image of the disk stands for the plan's end.
-        ensures served { OnOk result ((kept : Durable) → Tells (D.kind disk.old).tells (L.tells link.old) (C.tells clock.new)
-            → durable_in (D.content disk.old).reading ≡ Some kept
+        // plan's output was sent, and each image of the disk stands for the plan's end, with the plan's entries in the log.
+        ensures served { OnOk result ((kept : Durable) (log : Log) → Tells (D.kind disk.old).tells (L.tells link.old) (C.tells clock.new)
+            → durable_in (D.content disk.old).reading ≡ Some kept → log_in (D.content disk.old).reading ≡ Ok log
             → let readings = added (C.readings clock.old) (C.readings clock.new) in
             let start = entered config.now.node kept in
             let limit = config.now.node.network.max_frame_size in
-            IsServed durable_in (D.images disk.new) (D.moment disk.new) (L.left link.new) (length readings) (length (frames limit (L.left link.old)))
-            (added (L.sent link.old) (L.sent link.new)) start (plan_over start limit (L.left link.old) readings)) }
+            IsServed durable_in (λ files. ok (log_in files)) (D.images disk.new) (D.moment disk.new) (L.left link.new) (length readings) (length (frames limit (L.left link.old)))
+            (added (L.sent link.old) (L.sent link.new)) start log (plan_over start limit (L.left link.old) readings)) }
 
         // At every exit what was sent is a front of the plan's output.
         ensures prefix { (kept : Durable) → Tells (D.kind disk.old).tells (L.tells link.old) (C.tells clock.new)

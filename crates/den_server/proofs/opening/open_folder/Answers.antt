@@ -1,4 +1,4 @@
-use Rattle.std.proofs.Common.{IsTrue, IsOk, le_trans, ◌≡◌, ◌≤◌, ◌+◌, ◌*◌, ℕ, [], Some, refl, sym, subst, ap, ◌∙◌, arith}
+use Rattle.std.proofs.Common.{IsTrue, IsOk, le_trans, ◌≡◌, ◌≤◌, ◌+◌, ◌*◌, ℕ, [], Some, Ok, refl, sym, subst, ap, ◌∙◌, arith}
 use Rattle.den_disk.specs.Files.{Kind, Files}
 use Rattle.den_disk.specs.Goes.{Rose}
 use Rattle.den_model.specs.Image.{durable_in, durable}
@@ -63,6 +63,9 @@ returns-clause-kv g c = if_ok_two c.recover.result _ _ _
     (some_same _ _ kept opened (sym (read_durable (g.D.Disk.content c.args.disk.now).reading _ _ _ (c.in-Ok-open_stores.ensures.read told)) ∙ stands))
     (running ∙ c.in-Ok.ensures.running))
     c.recover.ensures.opened c.recover.ensures.running
+
+pub returns-clause-log : goal.returns-clause-log
+returns-clause-log g c = if_ok_weaker c.recover.result _ _ (λ engine is told. (c.in-Ok-open_stores.ensures.read told).log ∙ ap Ok (sym is)) c.recover.ensures.log
 
 -- what the stores weighed, and the entries that were applied
 lighter : (held entries more bytes : ℕ) → held ≤ 768 + 4 * bytes → entries ≤ bytes → more ≤ entries → held + store_rise more ≤ opened_weight bytes

@@ -4,7 +4,7 @@ use Rattle.den_disk.specs.Files.{Kind, Files, Content}
 use Rattle.den_disk.specs.Goes.{Rose, added}
 use Rattle.den_model.specs.Crash.{Tells, Survives, IsServed}
 use Rattle.den_model.specs.Frames.{frames}
-use Rattle.den_model.specs.Image.{durable_in}
+use Rattle.den_model.specs.Image.{durable_in, log_in, ok}
 use Rattle.den_model.specs.Kv.{Kv}
 use Rattle.den_model.specs.Plan.{plan_over}
 use Rattle.den_model.specs.Sizes.{files_size}
@@ -14,12 +14,13 @@ use Rattle.den_codec.specs.Standard.{entered}
 use Rattle.den_core.specs.Parts.{kv_of}
 use Rattle.den_core.specs.Refusals.{IsServeRefusal}
 use Rattle.den_core.specs.Weights.{run_weight}
+use Rattle.den_store.specs.FileLog.{log_shown}
 use Rattle.den_store.specs.FileMeta.{meta_shown}
 use Rattle.den_server.specs.Causes.{IsRunRefusal}
 use Rattle.den_server.specs.Opening.{refusal_in, held_weight, SurvivesOpening}
 use Rattle.den_server.proofs.Ended.{rose_then, opening_ended, serving_ended, away, refused_not_read, full_serving, full_opening, completed}
 use Rattle.den_server.proofs.Refused.{if_err_weaker}
-use Rattle.den_server.proofs.Surviving.{reading_image, of_node, opening_then, no_reading, all_along, opening_front, served_from}
+use Rattle.den_server.proofs.Surviving.{reading_image, of_node, opening_then, no_reading, all_along, opening_front, served_from, log_same}
 use Rattle.den_disk.specs.declared.place.Family.TheVariants.{Snapshot as snapshot_family}
 use Rattle.den_core.proofs.Spared.{spares_twice}
 use Rattle.den_server.proofs.standalone.StandaloneEngine.run.Goals as goal
@@ -112,19 +113,20 @@ returns-clause-prefix g c = λ kept told stands.
     (returns-clause-opening g c kept told stands)
 
 pub returns-clause-served : goal.returns-clause-served
-returns-clause-served g c = on_ok_weaker c.run_from.result (λ served kept told stands.
+returns-clause-served g c = on_ok_weaker c.run_from.result (λ served kept log told stands read.
     let D = g.D.Disk in
     let opened_tells : IsTrue (D.kind c.open_folder.new.disk).tells = subst (λ (k : Kind). IsTrue k.tells) (sym c.open_folder.ensures.disk.same) told.disk_tells in
     let here : Tells (D.kind c.open_folder.new.disk).tells (g.L.Link.tells c.args.link.now) (g.C.Clock.tells c.run_from.new.clock) =
     record { disk_tells = opened_tells; link_tells = told.link_tells; clock_tells = told.clock_tells } in
     let readings = added (g.C.Clock.readings c.args.clock.now) (g.C.Clock.readings c.run_from.new.clock) in
-    served_from (D.images c.run_from.new.disk) _ _ _ _ _ (entered c.args.config.now.node kept) _
+    served_from (λ files. ok (log_in files)) (D.images c.run_from.new.disk) _ _ _ _ _ (entered c.args.config.now.node kept) _ log _
     (λ (k : Kv). plan_over k c.args.config.now.node.network.max_frame_size (g.L.Link.left c.args.link.now) readings)
     (c.in-Ok.ensures.kv kept told.disk_tells stands ∙ ap (λ (n : RaftNodeConfig). entered n kept) c.node.ensures)
-    (subst (λ (n : RaftNodeConfig). IsServed durable_in (D.images c.run_from.new.disk) (D.moment c.run_from.new.disk) (g.L.Link.left c.run_from.new.link) (length readings)
+    (log_same (log_in (D.content c.args.disk.now).reading) _ log (c.in-Ok.ensures.log told.disk_tells) read)
+    (subst (λ (n : RaftNodeConfig). IsServed durable_in (λ files. ok (log_in files)) (D.images c.run_from.new.disk) (D.moment c.run_from.new.disk) (g.L.Link.left c.run_from.new.link) (length readings)
     (length (frames n.network.max_frame_size (g.L.Link.left c.args.link.now)))
-    (added (g.L.Link.sent c.args.link.now) (g.L.Link.sent c.run_from.new.link)) (kv_of ((meta_shown c.in-Ok.engine.meta).value) c.in-Ok.engine.state.map c.in-Ok.engine.running)
-    (plan_over (kv_of ((meta_shown c.in-Ok.engine.meta).value) c.in-Ok.engine.state.map c.in-Ok.engine.running) n.network.max_frame_size (g.L.Link.left c.args.link.now) readings))
+    (added (g.L.Link.sent c.args.link.now) (g.L.Link.sent c.run_from.new.link)) (kv_of (meta_shown c.in-Ok.engine.meta).value c.in-Ok.engine.state.map c.in-Ok.engine.running) (log_shown c.in-Ok.engine.log).value
+    (plan_over (kv_of (meta_shown c.in-Ok.engine.meta).value c.in-Ok.engine.state.map c.in-Ok.engine.running) n.network.max_frame_size (g.L.Link.left c.args.link.now) readings))
     c.node-2.ensures (served here))) c.run_from.ensures.served
 
 pub returns-clause-refused : goal.returns-clause-refused
