@@ -1,5 +1,5 @@
 -- How far a reader of a gate file's regions came, and what one more call finds.
-use Rattle.std.specs.Prelude.{◌≡◌, ◌≤◌, ℕ, ◌+◌, List, length, take, Option, Some, None, Result, Ok, Err}
+use Rattle.std.specs.Prelude.{◌≡◌, ◌≤◌, ℕ, ◌+◌, List, length, take, slice_get, Option, Some, None, Result, Ok, Err}
 use Rattle.den_disk.specs.Files.{Files}
 use Rattle.den_model.specs.Regions.{Region, regions, placed}
 use Rattle.den_gate.specs.declared.error.GateError.{GateError}
@@ -18,6 +18,10 @@ pub record StandsIn (reader : RegionReader) (files : Files) : Type 0 where
   pub whole : regions (files reader.slot) ≡ Ok (placed 0 (payloads_before reader files))
   pub given : reader.given ≤ length (payloads_before reader files)
   pub begins : Begins (take reader.given (payloads_before reader files)) reader.at (files reader.slot)
+
+-- the region that a reader comes to next, or none behind the last one
+abbrev pub next_region : RegionReader → Files → Option Region
+next_region reader files = slice_get (placed 0 (payloads_before reader files)) reader.given
 
 -- the region that a call found, by its gate's offset and its payload
 abbrev pub region_found : Option ℕ → List ℕ → Option Region

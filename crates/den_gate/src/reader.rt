@@ -27,9 +27,7 @@ pub struct RegionReader {
 }
 
 impl RegionReader {
-    ghost use Rattle.std.specs.Prelude.{slice_get};
-    ghost use Rattle.den_model.specs.Regions.{placed};
-    ghost use Rattle.den_gate.specs.Reader.{payloads_before, region_found, Advances, StandsIn};
+    ghost use Rattle.den_gate.specs.Reader.{next_region, region_found, Advances, StandsIn};
     ghost use Rattle.den_gate.specs.Reads.{OnlyReads};
 
     // A reader of a slot of this length, before its first region.
@@ -60,12 +58,13 @@ impl RegionReader {
         requires stands { IsTrue (D.kind disk.old).tells → StandsIn self.old (D.content disk.old).reading }
         ensures disk { OnlyReads D.Disk disk.old disk.new }
         ensures found { IsTrue (D.kind disk.old).tells → IfOk result (λ offset.
-            region_found offset buffer.new.items ≡ slice_get (placed 0 (payloads_before self.old (D.content disk.old).reading)) self.old.given) }
+            region_found offset buffer.new.items ≡ next_region self.old (D.content disk.old).reading) }
         ensures stands { IsTrue (D.kind disk.old).tells → StandsIn self.new (D.content disk.new).reading }
         ensures advances { Advances result buffer.new.items self.old self.new }
         ensures slot { self.new.slot ≡ self.old.slot }
         ensures len { self.new.len ≡ self.old.len }
-        ensures refused { IfErr result (Because (Unit {0}) (Rose (D.faults disk.old) (D.faults disk.new)) (λ needed limit. ⊥) (λ part offset. IsTrue (D.kind disk.old).tells → ⊥)) }
+        ensures refused { IfErr result (Because (Unit {0}) (Rose (D.faults disk.old) (D.faults disk.new)) (λ needed limit. ⊥)
+            (λ part offset. IsTrue (D.kind disk.old).tells → ⊥)) }
     {
         if self.at >= self.len {
             return Ok(None);
@@ -103,10 +102,12 @@ fn take_bytes<D: Disk>(
     requires shows { IsTrue (D.kind disk.old).tells → Shows window.now ((D.content disk.old).reading slot) }
     ensures kind { D.kind disk.new ≡ D.kind disk.old }
     ensures later { D.faults disk.old ≤ D.faults disk.new }
-    ensures payload { IsTrue (D.kind disk.old).tells → OnOk result (buffer.new.items ≡ take (to - from) (drop from ((D.content disk.old).reading slot))) }
+    ensures payload { IsTrue (D.kind disk.old).tells → OnOk result (
+        buffer.new.items ≡ take (to - from) (drop from ((D.content disk.old).reading slot))) }
     ensures long { OnOk result (length buffer.new.items ≡ to - from) }
     ensures stays { IsTrue (D.kind disk.old).tells → Stays D.content D.moment D.images disk.old disk.new }
-    ensures refused { IfErr result (Because (Unit {0}) (Rose (D.faults disk.old) (D.faults disk.new)) (λ needed limit. ⊥) (λ part offset. ⊥)) }
+    ensures refused { IfErr result (Because (Unit {0}) (Rose (D.faults disk.old) (D.faults disk.new)) (λ needed limit. ⊥)
+        (λ part offset. ⊥)) }
 {
     let size = (to - from) as usize;
     buffer.clear();

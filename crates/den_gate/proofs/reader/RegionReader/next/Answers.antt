@@ -1,7 +1,7 @@
 use Rattle.std.proofs.Common.{◌≡◌, ◌≢◌, refl, arith, ℕ, List, IsTrue, get_or, sym, ◌∙◌, ap, subst}
 use Rattle.std.proofs.lemmas.List.{get_or_past}
 use Rattle.den_disk.specs.Files.{Content}
-use Rattle.den_gate.specs.Slot.{payloads_of, IsRegion, IsCutShort}
+use Rattle.den_gate.specs.Slot.{payloads_of, IsRegion}
 use Rattle.den_gate.specs.Loading.{Finds, GoesOn, payload_at}
 use Rattle.den_gate.proofs.Written.{begins_short}
 use Rattle.den_gate.proofs.NextRegion.{next_found, none_found, stands_behind}
