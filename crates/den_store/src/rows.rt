@@ -162,7 +162,7 @@ fn persist<D: Disk, G: LogStore<D>>(
     ensures stands { OnOk result (Stands D.Disk (G.shown log.new) disk.new) }
 {
     if !is_above::<D, G>(log, entries) {
-        return Err("no entries above the boundary")?;
+        return Err("entries at or below the boundary")?;
     }
     Ok(log.persist_entries(disk, entries)?)
 }
@@ -430,7 +430,7 @@ fn saved(alloc: Global, disk: &mut MemDisk, state: &HardState) -> Result<(), Fai
     save(&mut meta, disk, state)
 }
 
-fn hard_state<T: MetaStore<MemDisk>>(meta: &T) -> Option<HardState> {
+fn hard_state<D: Disk, T: MetaStore<D>>(meta: &T) -> Option<HardState> {
     meta.load_hard_state()
 }
 
@@ -443,7 +443,7 @@ fn engine(rt: HostRuntime) -> Result<(), Fail> {
     };
     let mut disk = MemDisk::new(alloc);
     let meta = FileMetaStore::new(alloc, &mut disk)?;
-    assert_eq!(rt; hard_state(&meta), None);
+    assert_eq!(rt; hard_state::<MemDisk, _>(&meta), None);
     saved(alloc, &mut disk, &state)?;
     edited(
         alloc,
@@ -456,7 +456,7 @@ fn engine(rt: HostRuntime) -> Result<(), Fail> {
     let mut engine = FileStorageEngine::new(alloc, label, &mut disk)?;
     assert_eq!(rt; engine.data_dir().as_str(), "data");
     let meta = StorageEngine::<MemDisk>::meta_store(&mut engine);
-    assert_eq!(rt; hard_state(meta), Some(state));
+    assert_eq!(rt; hard_state::<MemDisk, _>(meta), Some(state));
     let log = StorageEngine::<MemDisk>::log_store(&mut engine);
     assert_eq!(rt; LogStore::<MemDisk>::last_index(log), 2);
     let (log, meta) = StorageEngine::<MemDisk>::split(engine);
@@ -464,6 +464,6 @@ fn engine(rt: HostRuntime) -> Result<(), Fail> {
         pairs_of::<MemDisk, _>(&log, alloc, 0, 9)?.as_slice(),
         [(1, 3), (2, 3)].as_slice()
     );
-    assert_eq!(rt; hard_state(&meta), Some(state));
+    assert_eq!(rt; hard_state::<MemDisk, _>(&meta), Some(state));
     Ok(())
 }
