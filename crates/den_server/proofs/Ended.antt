@@ -1,5 +1,5 @@
 -- How a run ended.
-use Rattle.std.proofs.Common.{◌≡◌, ◌⊎◌, inl, inr, ⊎_elim, ◌<◌, ◌≤◌, ◌+◌, ◌-◌, ◌*◌, ◌^◌, min, ℕ, List, length, Option, Some, None, Result, Ok, Err, OnOk, IfErr, refl, sym, ◌∙◌, ap, subst, arith}
+use Rattle.std.proofs.Common.{◌≡◌, ◌⊎◌, inl, inr, ◌<◌, ◌≤◌, ◌+◌, ◌*◌, ℕ, Option, Some, None, Result, Ok, Err, IfErr, refl, ap, arith}
 use Rattle.den_disk.specs.Goes.{Rose}
 use Rattle.den_codec.specs.declared.error.Error.{Error}
 use Rattle.den_codec.specs.declared.error.Error.TheVariants as error
@@ -8,7 +8,7 @@ use Rattle.den_model.specs.declared.running.Running.{Running}
 use Rattle.den_model.specs.Kv.{Durable, Kv}
 use Rattle.den_core.specs.Refusals.{IsServeRefusal}
 use Rattle.den_core.specs.Weights.{run_weight}
-use Rattle.den_server.specs.Causes.{IsOpeningRefusal, IsRunRefusal, IsTurnedAway, IsFullOf, IsMuch}
+use Rattle.den_server.specs.Causes.{IsOpeningRefusal, IsRunRefusal, IsFullOf, IsMuch}
 use Rattle.den_server.specs.Opening.{opened_weight}
 
 pub rose_then : (first before now : ℕ) → first ≤ before → Rose before now → Rose first now

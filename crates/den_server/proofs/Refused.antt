@@ -1,5 +1,5 @@
 -- What a folder's files are refused for, by what was read of them.
-use Rattle.std.proofs.Common.{cond, nat_lt, List, [], ◌∷◌, length, ◌≡◌, ◌⊎◌, inl, inr, ⊎_elim, ◌<◌, ◌≤◌, ◌+◌, ◌*◌, ◌||◌, IsTrue, IsSome, ℕ, Bool, true, false, Option, Some, None, Result, Ok, Err, OnOk, IfOk, IfErr, IsOk, if◌then◌else◌, refl, sym, ◌∙◌, ap, subst, arith}
+use Rattle.std.proofs.Common.{cond, nat_lt, List, [], ◌∷◌, length, ◌≡◌, ⊎_elim, ◌≤◌, ◌+◌, IsTrue, IsSome, ℕ, Bool, true, false, Option, Some, None, Result, Ok, Err, OnOk, IfOk, IfErr, IsOk, if◌then◌else◌, refl, sym, ◌∙◌, ap, subst, arith}
 use Rattle.den_disk.specs.declared.place.Family.TheVariants as family
 use Rattle.den_disk.specs.Place.{place_number}
 use Rattle.den_disk.specs.Files.{Files}
@@ -14,7 +14,6 @@ use Rattle.den_model.specs.Kv.{Durable}
 use Rattle.den_model.specs.Log.{Log, above}
 use Rattle.den_model.specs.MapState.{MapState}
 use Rattle.den_model.specs.Image.{Corruption, recovered, of_family, or_corrupt, ◌>>=◌, slot_of, log_in, hard_state_held, map_in, durable, durable_in, joined, ok}
-use Rattle.den_map.specs.Leases.{asks_lease, has_expiry}
 use Rattle.den_state.specs.Machine.{IsOpeningRefusal as IsStateRefusal}
 use Rattle.den_journal.specs.Causes.{IsRefusal}
 use Rattle.den_store.specs.Engine.{IsFirstCorrupt}

@@ -1,14 +1,13 @@
 -- From which moment on a crash leaves what was read at entry.
-use Rattle.std.proofs.Common.{◌≡◌, ◌⊎◌, inr, ⊎_elim, ◌↔◌, ℕ, ◌≤◌, ◌<◌, ◌+◌, List, [], ◌∷◌, length, Result, Ok, Err, Some, Option, IsOk, refl, sym, ◌∙◌, ap, subst, arith}
+use Rattle.std.proofs.Common.{◌≡◌, ◌⊎◌, inr, ⊎_elim, ◌↔◌, ℕ, ◌≤◌, ◌+◌, List, [], Err, Some, Option, refl, ◌∙◌, ap, subst, arith}
 use Rattle.std.proofs.lemmas.List.{ext_get_or}
 use Rattle.std.proofs.lemmas.Bool.{cases_lt}
 use Rattle.den_disk.specs.declared.place.Place.{Place}
-use Rattle.den_disk.specs.Files.{Files, Range, Content, IsPending, IsImageAt, IsImage}
+use Rattle.den_disk.specs.Files.{Files, Range, Content, IsImageAt, IsImage}
 use Rattle.den_disk.specs.Families.{NoNewImages, SparesAll}
 use Rattle.den_codec.specs.declared.error.Error.{Error}
 use Rattle.den_codec.specs.declared.error.Error.TheVariants as error
 use Rattle.den_model.specs.Kv.{Durable, Kv}
-use Rattle.den_model.specs.Crash.{Survives}
 use Rattle.den_journal.specs.Opening.{IsSettled}
 use Rattle.den_disk.specs.declared.place.Family.{Family}
 use Rattle.den_core.specs.Spared.{SparesFamily}

@@ -1,5 +1,5 @@
 -- What opening finds in a folder's files, and what a crash leaves meanwhile.
-use Rattle.std.specs.Prelude.{◌≡◌, ◌||◌, ◌+◌, ◌*◌, ◌≤◌, ◌<◌, ℕ, Bool, false, List, Option, Some, None, Result, Ok, Err, if◌then◌else◌}
+use Rattle.std.specs.Prelude.{◌≡◌, ◌||◌, ◌+◌, ◌*◌, ◌≤◌, ◌<◌, ℕ, Bool, false, List, Option, Result, Ok, Err}
 use Rattle.den_disk.specs.Files.{Files, Content}
 use Rattle.den_disk.specs.Families.{SparesAll}
 use Rattle.den_codec.specs.declared.error.Error.{Error}

@@ -1,10 +1,9 @@
-use Rattle.std.proofs.Common.{IsTrue, IsOk, le_trans, ◌≡◌, ◌≤◌, ◌+◌, ◌*◌, ℕ, [], Some, Ok, refl, sym, subst, ap, ◌∙◌, arith}
-use Rattle.den_disk.specs.Files.{Kind, Files}
+use Rattle.std.proofs.Common.{IsTrue, le_trans, ◌≤◌, ◌+◌, ◌*◌, ℕ, [], Ok, refl, sym, subst, ap, ◌∙◌, arith}
+use Rattle.den_disk.specs.Files.{Kind}
 use Rattle.den_disk.specs.Goes.{Rose}
-use Rattle.den_model.specs.Image.{durable_in, durable}
-use Rattle.den_model.specs.Kv.{Durable, Kv}
+use Rattle.den_model.specs.Image.{durable_in}
+use Rattle.den_model.specs.Kv.{Kv}
 use Rattle.den_model.specs.declared.running.Running.{Running}
-use Rattle.den_codec.specs.declared.error.Error.{Error}
 use Rattle.den_codec.specs.Standard.{entered}
 use Rattle.den_core.specs.Opening.{opening_refusal, IsOpeningFailure}
 use Rattle.den_store.specs.FileLog.{log_shown, file_place}

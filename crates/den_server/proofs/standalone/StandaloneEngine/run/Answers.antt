@@ -1,6 +1,6 @@
-use Rattle.std.proofs.Common.{IsTrue, IsOk, ◌≡◌, ◌⊎◌, ◌≤◌, ◌+◌, ◌-◌, List, [], ℕ, length, refl, sym, subst, ap, ◌∙◌, arith}
+use Rattle.std.proofs.Common.{IsTrue, ◌-◌, length, refl, sym, subst, ap, ◌∙◌}
 use Rattle.std.proofs.lemmas.Result.{on_ok_weaker}
-use Rattle.den_disk.specs.Files.{Kind, Files, Content}
+use Rattle.den_disk.specs.Files.{Kind}
 use Rattle.den_disk.specs.Goes.{Rose, added}
 use Rattle.den_model.specs.Crash.{Tells, Survives, IsServed}
 use Rattle.den_model.specs.Frames.{frames}
@@ -16,9 +16,8 @@ use Rattle.den_core.specs.Refusals.{IsServeRefusal}
 use Rattle.den_core.specs.Weights.{run_weight}
 use Rattle.den_store.specs.FileLog.{log_shown}
 use Rattle.den_store.specs.FileMeta.{meta_shown}
-use Rattle.den_server.specs.Causes.{IsRunRefusal}
-use Rattle.den_server.specs.Opening.{refusal_in, held_weight, SurvivesOpening}
-use Rattle.den_server.proofs.Ended.{rose_then, opening_ended, serving_ended, away, refused_not_read, full_serving, full_opening, completed}
+use Rattle.den_server.specs.Opening.{refusal_in, held_weight}
+use Rattle.den_server.proofs.Ended.{rose_then, opening_ended, serving_ended, away, refused_not_read, full_serving, full_opening}
 use Rattle.den_server.proofs.Refused.{if_err_weaker}
 use Rattle.den_server.proofs.Surviving.{reading_image, of_node, opening_then, no_reading, all_along, opening_front, served_from, log_same}
 use Rattle.den_disk.specs.declared.place.Family.TheVariants.{Snapshot as snapshot_family}
