@@ -6,9 +6,9 @@ mod default_lease;
 mod expiries;
 mod laws;
 mod lease;
-#[cfg(test)]
-mod rows;
 mod snapshot;
+#[cfg(test)]
+mod tests;
 
 pub use byte_map::ByteMap;
 pub use default_lease::DefaultLease;

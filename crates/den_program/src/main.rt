@@ -7,10 +7,10 @@
 //! tries it on real files.
 #![tactic(auto)]
 
-#[cfg(test)]
-mod rows;
 mod serving;
 mod status;
+#[cfg(test)]
+mod tests;
 mod words;
 
 use den_disk::{ListClock, MemDisk, MemLink, MemSource};

@@ -10,8 +10,8 @@
 
 mod nodes;
 mod opening;
-#[cfg(test)]
-mod rows;
 mod standalone;
+#[cfg(test)]
+mod tests;
 
 pub use standalone::StandaloneEngine;

@@ -19,7 +19,7 @@ mod holding;
 mod machine;
 mod marks;
 #[cfg(test)]
-mod rows;
+mod tests;
 
 pub use file_machine::{FileStateMachine, SnapshotMetadata};
 pub use machine::StateMachine;

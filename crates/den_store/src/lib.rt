@@ -24,9 +24,9 @@ mod held_log;
 mod last_state;
 mod log_store;
 mod meta_store;
-#[cfg(test)]
-mod rows;
 mod stores;
+#[cfg(test)]
+mod tests;
 
 pub use engine::{FileStorageEngine, StorageEngine};
 pub use log_store::FileLogStore;
