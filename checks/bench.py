@@ -18,8 +18,10 @@ import sys
 import tempfile
 import time
 
-sys.dont_write_bytecode = True  # no folder of theirs beside these files
-from real_files import BUILT, WRITTEN, frame, put, read
+sys.dont_write_bytecode = True
+
+from real_files import BUILT
+from serving import WRITTEN, frame, put, read
 
 VALUE = b"v" * 16
 ANSWER = frame(WRITTEN)
