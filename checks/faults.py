@@ -79,7 +79,7 @@ def file_in_place(program, room):
     folder = os.path.join(room, "file")
     with open(folder, "wb") as file:
         file.write(b"a file")
-    lines = storage(b"the folder: File exists (os error 17)")
+    lines = storage(b"the folder: Not a directory (os error 20)")
     wants("a file in the folder's place", run(program, folder, [put(b"a", b"b")]), 5, lines)
     if open(folder, "rb").read() != b"a file":
         fail("a file in the folder's place was changed")

@@ -7,6 +7,7 @@ use crate::folder_lock::FolderLock;
 use crate::place_file::{PlaceFile, Twelve};
 use crate::system_call::counted;
 use den_disk::{Disk, DiskFault, Place};
+use std::alloc::Global;
 use std::fs::{DirBuilder, OpenFile};
 use std::io::ErrorKind;
 use std::os::unix::fs::{DirBuilderExt, FileExt};
@@ -180,13 +181,10 @@ where
         if self.path.is_empty() {
             return Err(Cause::NoName);
         }
+        let alloc = *self.path.allocator();
         let path = Path::new(self.path.as_str());
-        let handle = match locked(&self.rt, path) {
-            Ok(Some(handle)) => handle,
-            Ok(None) => return Err(Cause::InUse),
-            Err(e) => return Err(Cause::Call(None, e.into())),
-        };
-        self.files = Twelve::open(&self.rt, *self.path.allocator(), path)?;
+        let handle = locked(&self.rt, alloc, path)?;
+        self.files = Twelve::open(&self.rt, alloc, path)?;
         self.handle = Some(PlaceFile::new(handle));
         Ok(())
     }
@@ -221,49 +219,70 @@ fn sync_names<F: OpenFile>(handle: &mut Option<PlaceFile<F>>) -> Result<(), Caus
     }
 }
 
-// The open folder, which is made where it is missing, with its lock. None where another handle has the lock.
-fn locked<R: Files>(rt: &R, folder: Path<'_>) -> io::Result<Option<R::File>>
+// The open folder, which is made where it is missing, with its lock.
+fn locked<R: Files>(rt: &R, alloc: Global, folder: Path<'_>) -> Result<R::File, Cause>
 where
     R::File: FolderLock,
 {
-    make_folder(rt, folder)?;
-    let handle = fs::open(rt, folder)?;
-    Ok(handle.take_lock()?.then_some(handle))
+    make_folder(rt, alloc, folder)?;
+    let handle = fs::open(rt, folder).map_err(|e| Cause::Call(None, e.into()))?;
+    match handle.take_lock() {
+        Ok(true) => Ok(handle),
+        Ok(false) => Err(Cause::InUse),
+        Err(e) => Err(Cause::Call(None, e.into())),
+    }
 }
 
-// Makes a folder and those above it that are missing, for their owner alone, and makes each one's name last before the
-// next is made. The first that is there may have been made by a process that ended before its name was synced.
-fn make_folder<R: Files>(rt: &R, folder: Path<'_>) -> io::Result<()> {
+// Makes a folder and those above it that are missing, from the top, and makes each one's name last before the next is made.
+fn make_folder<R: Files>(rt: &R, alloc: Global, folder: Path<'_>) -> Result<(), Cause> {
     let missing = folder
         .ancestors()
         .take_while(|above| matches!(above.try_exists(rt), Ok(false)))
         .count();
-    for level in (0..=missing).rev() {
+    if let Some(there) = folder.ancestors().nth(missing) {
+        sync_above(rt, alloc, there)?;
+    }
+    for level in (0..missing).rev() {
         let mut above = folder.ancestors().skip(level);
-        if let Some(made) = above.next() {
-            DirBuilder::new()
-                .recursive(true)
-                .mode(0o700)
-                .create(rt, made)?;
-        }
-        if let Some(parent) = above.next() {
-            sync_parent(rt, parent, level < missing)?;
+        if let (Some(made), Some(parent)) = (above.next(), above.next()) {
+            make_one(rt, made, parent)?;
         }
     }
     Ok(())
 }
 
-// Syncs the folder above one. Where the one was there before, and the folder above may not be read, its name was made by
-// somebody else.
-fn sync_parent<R: Files>(rt: &R, parent: Path<'_>, is_new: bool) -> io::Result<()> {
+// Syncs the folder that a folder which is there lies in: a process that made it may have ended before its name was synced.
+// None makes it where that folder may not be read, so its name is then somebody else's.
+fn sync_above<R: Files>(rt: &R, alloc: Global, there: Path<'_>) -> Result<(), Cause> {
+    let above = there
+        .join(alloc, "..")
+        .map_err(|e| Cause::Call(None, io::Error::from(e).into()))?;
+    match fs::open(rt, above.as_path()) {
+        Ok(above) => above.sync_all().map_err(|e| Cause::Sync(None, e.into())),
+        Err(e) if e.kind() == ErrorKind::PermissionDenied => Ok(()),
+        Err(e) => Err(Cause::Call(None, e.into())),
+    }
+}
+
+// Makes a folder for its owner alone, and makes its name last. It is taken away again where that fails, so that no later
+// process takes its name as lasting.
+fn make_one<R: Files>(rt: &R, made: Path<'_>, parent: Path<'_>) -> Result<(), Cause> {
     let name = match parent.as_str() {
         "" => ".",
         name => name,
     };
-    match fs::open(rt, name) {
-        Ok(parent) => parent.sync_all(),
-        Err(e) if e.kind() == ErrorKind::PermissionDenied && !is_new => Ok(()),
-        Err(e) => Err(e),
+    let above = fs::open(rt, name).map_err(|e| Cause::Call(None, e.into()))?;
+    DirBuilder::new()
+        .recursive(true)
+        .mode(0o700)
+        .create(rt, made)
+        .map_err(|e| Cause::Call(None, e.into()))?;
+    match above.sync_all() {
+        Ok(()) => Ok(()),
+        Err(e) => {
+            let _ = fs::remove_dir(rt, made);
+            Err(Cause::Sync(None, e.into()))
+        }
     }
 }
 

@@ -83,6 +83,11 @@ error_not_2 (error.UnorderedChunk index) is = cc is
 error_not_2 (error.Config place) is = cc is
 error_not_2 error.StateMachineError is = cc is
 
+-- what is said of an answer of Ok, where it is one
+pub at_ok : {P : Type 0} (r : Result (Unit {0}) Error) → Some r ≡ Some (Ok tt) → OnOk r P → P
+at_ok (Ok done) is p = p
+at_ok (Err e) is p = absurd (cc is)
+
 pub ok_at_0 : (r : Option (Result (Unit {0}) Error)) → status_of r ≡ 0 → r ≡ Some (Ok (record {}))
 ok_at_0 None is = absurd (cc is)
 ok_at_0 (Some (Ok done)) is = refl

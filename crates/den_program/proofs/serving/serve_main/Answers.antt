@@ -3,8 +3,13 @@ use Rattle.den_disk.specs.Goes.{Rose}
 use Rattle.den_server.specs.Opening.{refusal_in}
 use Rattle.den_program.specs.Serving.{IsRefusedStatus, IsLine, IsLineFront}
 use Rattle.den_program.specs.Status.{status_of_error}
-use Rattle.den_program.proofs.Statuses.{two_at_none, turned_away_status, line_is, front_is}
+use Rattle.den_program.proofs.Statuses.{ok_at_0, two_at_none, turned_away_status, line_is, front_is}
 use Rattle.den_program.proofs.serving.serve_main.Goals as goal
+
+pub returns-clause-served : goal.returns-clause-served
+returns-clause-served g c = λ kept log is told stands logs.
+    let answer = c.serve_words-answer.result in
+    c.serve_words-answer.ensures.served kept log (ok_at_0 answer (sym c.status_of.ensures ∙ is)) told stands logs
 
 pub returns-clause-turned_away : goal.returns-clause-turned_away
 returns-clause-turned_away g c = λ e told is some.

@@ -1,8 +1,10 @@
 use Rattle.std.proofs.Common.{◌≡◌, Bool, IsTrue, refl}
-use Rattle.den_model.specs.Image.{durable_in}
+use Rattle.den_disk.specs.Goes.{added}
+use Rattle.den_model.specs.Image.{durable_in, log_in, ok}
 use Rattle.den_server.proofs.Surviving.{reading_image, all_along}
 use Rattle.den_program.specs.Serving.{start, frame_limit}
-use Rattle.den_program.proofs.Served.{untouched}
+use Rattle.den_program.proofs.Served.{standard_served, untouched}
+use Rattle.den_program.proofs.Statuses.{at_ok}
 use Rattle.den_disk.specs.declared.place.Family.TheVariants.{Snapshot as snapshot_family}
 use Rattle.den_core.proofs.Spared.{spares_still}
 use Rattle.den_program.proofs.serving.serve_words.Goals as goal
@@ -49,3 +51,13 @@ returns-in-Err-clause-snapshot g c = λ told. spares_still snapshot_family g.D.D
 
 pub returns-clause-turned_away : goal.returns-clause-turned_away
 returns-clause-turned_away g c = λ e told is some. c.run.ensures.turned_away e told is
+
+pub returns-clause-served : goal.returns-clause-served
+returns-clause-served g c = λ kept log is told stands logs.
+    let L = g.L.Link in
+    let C = g.C.Clock in
+    let old = c.args.link.now in
+    let new = c.run.new.link in
+    standard_served c.in-Ok.config.node c.in-Ok.ensures.standard durable_in (λ files. ok (log_in files)) (g.D.Disk.images c.run.new.disk) (g.D.Disk.moment c.run.new.disk) (L.left new) (L.left old)
+    (added (C.readings c.args.clock.now) (C.readings c.run.new.clock)) (added (L.sent old) (L.sent new)) kept log
+    (at_ok c.run.result is c.run.ensures.served kept log told stands logs)
