@@ -1,2 +1,3 @@
-pub mod KeyedBy
+pub mod Kept
 pub mod Rising
+pub mod Schedules

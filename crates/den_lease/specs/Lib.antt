@@ -1,6 +1,6 @@
 pub mod Due
-pub mod Keyed
 pub mod Laws
 pub mod Refusals
 pub mod Rising
+pub mod Scheduled
 pub mod Words

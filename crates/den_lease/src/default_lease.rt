@@ -8,7 +8,7 @@ ghost use Rattle.den_lease.specs.Due.{due_keys};
 ghost use Rattle.den_lease.specs.Refusals.{IsReloadRefusal};
 ghost use Rattle.den_lease.specs.Words.{snapshot_in};
 
-use crate::{ByteMap, Lease, LeaseSnapshot};
+use crate::{Expiries, Lease, LeaseSnapshot};
 use den_codec::{Blob, Error, LeaseConfig, Positive, Rows, Word};
 use std::alloc::Global;
 
@@ -16,7 +16,7 @@ use std::alloc::Global;
 #[derive(Drop)]
 pub struct DefaultLease {
     alloc: Global,
-    map: ByteMap<Positive>,
+    map: Expiries,
     used: bool,
     config: LeaseConfig,
     ghost unused: { used ≡ false → length map ≡ 0 },
@@ -31,7 +31,7 @@ impl DefaultLease {
     {
         DefaultLease {
             alloc,
-            map: ByteMap::new(alloc),
+            map: Expiries::new(alloc),
             used: false,
             config,
         }
@@ -50,8 +50,8 @@ impl DefaultLease {
         ensures refused { IfErr result (λ e. e ≡ OutOfMemory) }
     {
         let map = match LeaseSnapshot::read(alloc, bytes)? {
-            None => ByteMap::new(alloc),
-            Some(snapshot) => ByteMap::load(alloc, &snapshot)?,
+            None => Expiries::new(alloc),
+            Some(snapshot) => Expiries::load(alloc, &snapshot)?,
         };
         let used = 0 < map.len();
         Ok(DefaultLease {
@@ -73,10 +73,7 @@ impl DefaultLease {
     pub fn get_expiration(&self, key: &[u8]) -> Option<u64>
         ensures { result ≡ at self.now.map key.now }
     {
-        match self.map.get(key) {
-            None => None,
-            Some(expiry) => Some(expiry.get()),
-        }
+        self.map.get(key)
     }
 }
 
@@ -170,7 +167,7 @@ impl Lease for DefaultLease {
         let Some(snapshot) = LeaseSnapshot::read(self.alloc, bytes)? else {
             return Err(Error::StateMachineError);
         };
-        self.map = ByteMap::load(self.alloc, &snapshot)?;
+        self.map = Expiries::load(self.alloc, &snapshot)?;
         self.used = self.used || 0 < self.map.len();
         Ok(())
     }

@@ -1,9 +1,9 @@
 pub mod AnyMark
 pub mod Applying
+pub mod Cleaning
 pub mod Folding
 pub mod Lists
 pub mod Overlay
 pub mod Payloads
 pub mod Scanning
-pub mod Tables
 pub mod Tails

@@ -8,10 +8,10 @@ use Rattle.den_model.specs.Entries.{LogEntry}
 use Rattle.den_model.specs.Apply.{succeeds, value_at, with_pair}
 use Rattle.den_model.specs.MapState.{MapState, part_of, map_applied}
 use Rattle.den_model.specs.Table.{is_same, at, set, unset}
-use Rattle.den_lease.proofs.Rising.{IsSorted}
+use Rattle.den_table.proofs.Sorted.{IsSorted}
 use Rattle.den_map.specs.Journal.{recorded_as, recorded}
 use Rattle.den_map.specs.Written.{Written, IsOver, noted}
-use Rattle.den_map.proofs.Tables.{at_set, at_unset, sorted_set, sorted_unset}
+use Rattle.den_table.proofs.Tables.{at_set, at_unset, sorted_set, sorted_unset}
 
 abbrev value_of : Option Held → Option (List ℕ)
 value_of o = option_map (λ (h : Held). h.value) o

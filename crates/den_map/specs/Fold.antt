@@ -3,9 +3,9 @@ use Rattle.std.specs.Prelude.{◌≡◌, ℕ, Option, Some, None, Result, Ok, Er
 use Rattle.den_model.specs.declared.log_id.LogId.{LogId}
 use Rattle.den_model.specs.declared.journal.JournalRecord.{JournalRecord}
 use Rattle.den_model.specs.declared.journal.JournalRecord.TheVariants.{Noop, Insert, Delete, CasFailed, Cleanup}
-use Rattle.den_model.specs.Apply.{kept_pairs, kept_expiries}
 use Rattle.den_model.specs.Table.{unset}
 use Rattle.den_model.specs.MapState.{MapState, with_pair}
+use Rattle.den_map.specs.Cleanup.{cleaned_map}
 use Rattle.den_map.specs.declared.fold.FoldError.{FoldError}
 use Rattle.den_map.specs.declared.fold.FoldError.TheVariants.{Memory, Unlawful}
 use Rattle.den_map.specs.declared.fold.ListError.{ListError}
@@ -29,10 +29,7 @@ carried s (Noop index term) = s
 carried s (Insert index term key value expiry) = with_pair s key value term expiry
 carried s (Delete index term key) = record s { pairs = unset s.pairs key; expiries = unset s.expiries key }
 carried s (CasFailed index term) = s
-carried s (Cleanup moment) = record s {
-  pairs = kept_pairs s.expiries moment s.pairs;
-  expiries = kept_expiries moment s.expiries;
-}
+carried s (Cleanup moment) = cleaned_map moment s
 
 -- the place of the entry that a record is of
 abbrev pub place_of : JournalRecord → Option LogId

@@ -1,5 +1,6 @@
 pub mod Cleanup
 pub mod Fold
+pub mod Held
 pub mod Journal
 pub mod Leases
 pub mod Order

@@ -1,4 +1,13 @@
 //! The map in memory with its mark: what entries, records and regions make of it, and the records of a chunk. No disk.
+//!
+//! `Map` is seen as the state of the definitions: pairs and expiries as tables, and the mark, the place of the last entry
+//! that they hold. Its invariant is that each key that expires has a pair. Behind the tables stand ordered maps: a look-up
+//! and a change cost O(log n), a cleanup O(log n) for each key that is due, a scan the keys that it finds.
+//!
+//! - `Map::add_list` folds the regions of a journal, and refuses the first that is not lawful.
+//! - `Map::journal` makes the records, the results and the region of a chunk, and leaves the map as it is; `Map::take_on`
+//!   carries such records out.
+//! - `Map::clean` carries out a cleanup; `Map::has_due` and `Map::due_keys` say beforehand what it removes.
 #![tactic(auto)]
 
 mod chunk;

@@ -11,12 +11,14 @@ ghost use Rattle.den_lease.specs.Due.{has_due, due_keys};
 ghost use Rattle.den_map.specs.Cleanup.{cleaned_map};
 ghost use Rattle.den_map.specs.Scan.{keys_in};
 ghost use Rattle.den_map.specs.Fold.{carried};
+ghost use Rattle.den_map.specs.Held.{EachIsHeld};
 ghost use Rattle.den_map.specs.Journal.{expiry_of, recorded};
 ghost use Rattle.den_map.specs.Written.{IsOver, value_over};
 
 use crate::writes::Writes;
 use den_codec::{Blob, Command, Entry, Held, JournalRecord, KvEntry, LogId, Positive, Rows};
-use den_lease::ByteMap;
+use den_lease::Expiries;
+use den_table::ByteMap;
 use std::alloc::{AllocError, Global};
 use std::marker::Model;
 
@@ -24,16 +26,19 @@ use std::marker::Model;
 #[derive(Drop)]
 pub struct Map {
     pairs: ByteMap<Held>,
-    expiries: ByteMap<Positive>,
+    expiries: Expiries,
     mark: LogId,
 }
 
 impl Model for Map {
     ghost use Rattle.den_model.specs.MapState.{MapState};
+    ghost use Rattle.den_map.specs.Held.{EachIsHeld};
 
     ghost Value = { MapState };
 
     ghost view = { λ m. record { pairs = m.pairs; expiries = m.expiries; mark = m.mark } };
+
+    ghost invariant = { λ m. EachIsHeld m.expiries m.pairs };
 }
 
 // When a time to live that begins at a moment ends, in milliseconds. 0 is never.
@@ -62,7 +67,7 @@ impl Map {
     {
         Map {
             pairs: ByteMap::new(alloc),
-            expiries: ByteMap::new(alloc),
+            expiries: Expiries::new(alloc),
             mark,
         }
     }
@@ -98,9 +103,10 @@ impl Map {
         self.pairs.len()
     }
 
-    /// How many keys have an expiry.
+    /// How many keys have an expiry. Each of them is held, whatever the map was made of.
     pub fn expiry_count(&self) -> usize
-        ensures { result ≡ length self.now.expiries }
+        ensures is { result ≡ length self.now.expiries }
+        ensures held { EachIsHeld self.now.expiries self.now.pairs }
     {
         self.expiries.len()
     }
@@ -109,8 +115,8 @@ impl Map {
     pub(crate) fn unwritten(&self, alloc: Global) -> Writes
         ensures { IsOver result self.now self.now }
     {
-        // A walk over the pairs says that their keys are sorted.
-        let _walk = self.pairs.iter();
+        // The map says here that its keys are sorted.
+        let _count = self.pairs.len();
         Writes::none(alloc)
     }
 
@@ -206,8 +212,9 @@ impl Map {
     pub fn clean(&mut self, moment: Positive)
         ensures { self.new ≡ cleaned_map moment self.old }
     {
-        self.pairs.drop_expired(&self.expiries, moment.get());
-        self.expiries.drop_until(moment.get());
+        while let Some(expired) = self.expiries.take_due(moment.get()) {
+            self.pairs.remove(expired.as_slice());
+        }
     }
 
     /// Whether some key has expired at the moment.
@@ -230,14 +237,16 @@ impl Map {
         ensures pairs { IfOk result (λ pairs. pairs ≡ pairs_under self.now.pairs prefix.now) }
         ensures sorted { IfOk result (λ pairs. IsStrictlySortedBy by_bytes (keys_in pairs)) }
     {
+        let start = Vec::from_slice(alloc, prefix)?;
         let mut pairs = Vec::new(alloc);
-        for (key, held) in self.pairs.iter() {
-            if begins_with(key.as_slice(), prefix) {
-                pairs.push(KvEntry {
-                    key: Blob::of(alloc, key.as_slice())?,
-                    value: held.value.copy()?,
-                })?;
+        for (key, held) in self.pairs.iter_from(&start) {
+            if !begins_with(key.as_slice(), prefix) {
+                break;
             }
+            pairs.push(KvEntry {
+                key: Blob::of(alloc, key.as_slice())?,
+                value: held.value.copy()?,
+            })?;
         }
         Ok(Rows::of(pairs))
     }

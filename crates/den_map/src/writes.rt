@@ -4,7 +4,7 @@ ghost use Rattle.den_model.specs.Table.{at};
 ghost use Rattle.den_map.specs.Written.{noted};
 
 use den_codec::{Blob, JournalRecord};
-use den_lease::ByteMap;
+use den_table::ByteMap;
 use std::alloc::{AllocError, Global};
 use std::marker::Model;
 

@@ -1,8 +1,7 @@
 -- A line that is written in pieces.
-use Rattle.std.proofs.Common.{◌≡◌, ℕ, ◌≤◌, Bool, IsTrue, List, ◌++◌, length, drop, Result, OnOk, refl, sym, ◌∙◌, ap, subst, append_assoc, arith}
+use Rattle.std.proofs.Common.{◌≡◌, ℕ, Bool, IsTrue, List, ◌++◌, length, drop, refl, sym, ◌∙◌, ap, subst, append_assoc, arith}
 use Rattle.std.proofs.lemmas.List.{drop_at}
-use Rattle.std.proofs.lemmas.Result.{on_ok_weaker}
-use Rattle.den_disk.specs.Goes.{IsPrefix, Extends, SinkGoesOn, added}
+use Rattle.den_disk.specs.Goes.{Extends, SinkGoesOn, added}
 use Rattle.den_program.specs.Status.{IsWrittenFront}
 
 -- it ended with a first piece

@@ -1,7 +1,6 @@
 -- What an opening leaves, where less is known of its end.
-use Rattle.std.proofs.Common.{◌≡◌, ◌≤◌, ◌+◌, ◌<◌, ℕ, pos, false, List, [], length, Option, Some, None, refl, sym, ◌∙◌, ap, subst, arith}
+use Rattle.std.proofs.Common.{◌≡◌, ℕ, pos, false, List, length, Option, Some, None, subst, arith}
 use Rattle.den_disk.specs.Files.{Files}
-use Rattle.den_disk.specs.Families.{NoNewImages, SparesAll}
 use Rattle.den_disk.specs.Goes.{added}
 use Rattle.den_codec.specs.Standard.{IsStandard, entered}
 use Rattle.den_codec.specs.declared.config.RaftNodeConfig.{RaftNodeConfig}

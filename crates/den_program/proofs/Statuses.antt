@@ -1,11 +1,11 @@
 -- The statuses of a run's answers, and their causes.
-use Rattle.std.proofs.Common.{◌≡◌, ◌⊎◌, inl, inr, ⊎_elim, ◌++◌, ℕ, List, Option, Some, None, Result, Ok, Err, IfErr, IfSome, OnOk, refl, sym, ◌∙◌, ap, subst}
+use Rattle.std.proofs.Common.{◌≡◌, ◌⊎◌, inl, inr, ⊎_elim, ◌++◌, ℕ, List, Option, Some, None, Result, Ok, Err, IfErr, IfSome, OnOk, refl, ◌∙◌, ap, subst}
 use Rattle.den_disk.specs.Goes.{IsPrefix}
 use Rattle.den_codec.specs.declared.error.Error.{Error}
 use Rattle.den_codec.specs.declared.error.Error.TheVariants as error
 use Rattle.den_server.specs.Causes.{IsRunRefusal, IsTurnedAway, IsFullOf, IsMuch}
-use Rattle.den_program.specs.Serving.{HasStatus, IsCorrupt, IsRefusedStatus, IsLine, IsLineFront}
-use Rattle.den_program.specs.Status.{status_of, status_of_error, line_of, line_of_error, status_line, corruption_line, IsWrittenFront}
+use Rattle.den_program.specs.Serving.{HasStatus, IsRefusedStatus, IsLine, IsLineFront}
+use Rattle.den_program.specs.Status.{status_of, status_of_error, line_of, line_of_error, status_line, IsWrittenFront}
 
 module _ (disk_rose link_rose told : Type 0) (most bytes : ℕ) (refusal : Option Error) where
   abbrev H : ℕ → Type 0

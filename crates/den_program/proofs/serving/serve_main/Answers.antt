@@ -1,4 +1,4 @@
-use Rattle.std.proofs.Common.{◌≡◌, ◌+◌, ◌-◌, ℕ, Bool, IsTrue, None, sym, subst, ◌∙◌}
+use Rattle.std.proofs.Common.{◌≡◌, ℕ, IsTrue, None, sym, subst, ◌∙◌}
 use Rattle.den_disk.specs.Goes.{Rose}
 use Rattle.den_server.specs.Opening.{refusal_in}
 use Rattle.den_program.specs.Serving.{IsRefusedStatus, IsLine, IsLineFront}

@@ -1,4 +1,4 @@
-use Rattle.std.proofs.Common.{◌≡◌, Bool, IsTrue, refl}
+use Rattle.std.proofs.Common.{refl}
 use Rattle.den_disk.specs.Goes.{added}
 use Rattle.den_model.specs.Image.{durable_in, log_in, ok}
 use Rattle.den_server.proofs.Surviving.{reading_image, all_along}

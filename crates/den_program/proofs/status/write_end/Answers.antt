@@ -1,6 +1,6 @@
-use Rattle.std.proofs.Common.{IsTrue, ◌≡◌, ◌++◌, ◌<◌, Bool, List, ℕ, codes, decimal, length, sym, subst, ap, ◌∙◌}
+use Rattle.std.proofs.Common.{IsTrue, ◌≡◌, ◌++◌, ◌<◌, List, ℕ, codes, decimal, length, sym, subst, ap, ◌∙◌}
 use Rattle.std.proofs.lemmas.Fmt.{decimal_nonempty}
-use Rattle.den_program.specs.Status.{corruption_end, IsWrittenFront}
+use Rattle.den_program.specs.Status.{corruption_end}
 use Rattle.den_program.proofs.Lines.{front_stop, front_then}
 use Rattle.den_program.proofs.status.write_end.Goals as goal
 

@@ -1,4 +1,4 @@
-use Rattle.std.proofs.Common.{IsTrue, ◌≡◌, ◌++◌, Bool, List, ℕ, codes, sym, subst, ap, ◌∙◌}
+use Rattle.std.proofs.Common.{IsTrue, ◌≡◌, ◌++◌, List, ℕ, codes, sym, subst, ap, ◌∙◌}
 use Rattle.std.proofs.lemmas.Result.{on_ok_weaker}
 use Rattle.den_program.specs.Status.{file_name, corruption_front, IsWrittenFront}
 use Rattle.den_program.proofs.Lines.{front_stop, front_then, all_then}

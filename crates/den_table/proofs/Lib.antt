@@ -1,0 +1,4 @@
+pub mod Entries
+pub mod KeyedBy
+pub mod Sorted
+pub mod Tables
