@@ -11,7 +11,7 @@ use Rattle.std.specs.Option.{option_eq}
 use Rattle.std.specs.Ordering.{is_eq, is_gt, nat_cmp, ordering_then, eq_by_cmp}
 use Rattle.std.specs.declared.cmp.Ordering.{Ordering}
 use Rattle.std.specs.declared.cmp.Ordering.TheVariants.{Less, Equal, Greater}
-use Rattle.std.proofs.lemmas.Bool.{le-leb, leb-true, ltb-true, le-ltb}
+use Rattle.std.proofs.lemmas.Bool.{le-leb, leb-true, ltb-true}
 use Rattle.std.proofs.lemmas.List.Elements.{All-cons, All-weaker}
 use Rattle.std.proofs.lemmas.List.Folds.{list_any_none}
 use Rattle.std.proofs.lemmas.Map.Lookups.{exact_unsigned}
@@ -19,7 +19,7 @@ use Rattle.std.proofs.lemmas.Cmp.{nat_eq_equiv, nat_cmp_total, nat_list_cmp_tota
 use Rattle.std.proofs.lemmas.Map.Views.{exact_unsigned_eq}
 use Rattle.den_model.specs.Apply.{is_expired}
 use Rattle.den_model.specs.Table.{Table, by_bytes, is_same, at, set, unset}
-use Rattle.den_table.proofs.Entries.{same_itself, none_at, some_at, at_kept, same_table}
+use Rattle.den_table.proofs.Entries.{none_at, some_at, at_kept, same_table}
 use Rattle.den_table.proofs.Sorted.{IsSorted, sorted_filter}
 use Rattle.den_table.proofs.Tables.{same_is, at_set, at_unset, sorted_set}
 use Rattle.den_lease.specs.Due.{has_due}

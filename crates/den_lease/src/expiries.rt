@@ -78,6 +78,7 @@ impl Expiries {
     {
         let old = self.get(key);
         if old == Some(expiry.get()) {
+            // The map says here that its keys are sorted.
             let _count = self.by_key.len();
             return Ok(());
         }
@@ -108,6 +109,7 @@ impl Expiries {
     pub fn has_due(&self, moment: u64) -> bool
         ensures { result ≡ has_due moment self.now }
     {
+        // The map says here that its keys are sorted.
         let _count = self.by_key.len();
         match self.by_moment.first() {
             None => false,
@@ -119,6 +121,7 @@ impl Expiries {
     fn due(&self, alloc: Global, moment: u64) -> Result<ByteMap<u64>, AllocError>
         ensures { IfOk result (λ due. due ≡ filter (λ e. nat_le e.1 moment) self.now) }
     {
+        // The map says here that its keys are sorted.
         let _count = self.by_key.len();
         let mut due = ByteMap::new(alloc);
         for entry in self.by_moment.iter() {
@@ -154,6 +157,7 @@ impl Expiries {
         if !self.has_due(moment) {
             return None;
         }
+        // The map says here that its keys are sorted.
         let _count = self.by_key.len();
         let (_, key) = self.by_moment.pop_first()?;
         self.by_key.remove(key.as_slice());

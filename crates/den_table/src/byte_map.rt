@@ -78,6 +78,7 @@ impl<V> ByteMap<V> {
         ensures rest { self.new ≡ unset self.old key.now }
         ensures sorted { IsStrictlySortedBy by_bytes (keys_of self.old) }
     {
+        // The map says here that its keys are sorted.
         let _count = self.map.len();
         self.map.remove_entry(key)
     }
@@ -99,6 +100,7 @@ impl<V: Drop> ByteMap<V> {
         ensures rest { self.new ≡ unset self.old key.now }
         ensures sorted { IsStrictlySortedBy by_bytes (keys_of self.old) }
     {
+        // The map says here that its keys are sorted.
         let _count = self.map.len();
         self.map.remove(key);
     }

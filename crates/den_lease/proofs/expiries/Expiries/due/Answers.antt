@@ -1,11 +1,10 @@
-use Rattle.std.proofs.Common.{◌≡◌, ℕ, List, [], true, ap, sym, subst, ◌∙◌, filter, nat_le}
+use Rattle.std.proofs.Common.{◌≡◌, ℕ, List, [], true, ap, sym, ◌∙◌, filter, nat_le}
 use Rattle.std.specs.Global.{Vec}
-use Rattle.std.specs.List.{All, AllByRecursion, list_any}
-use Rattle.std.specs.List.Sorted.{IsStrictlySortedBy}
+use Rattle.std.specs.List.{AllByRecursion, list_any}
 use Rattle.std.proofs.lemmas.List.Elements.{recursion_from_All}
 use Rattle.den_model.specs.Table.{Table}
 use Rattle.den_lease.specs.Scheduled.{is_entry}
-use Rattle.den_lease.proofs.Schedules.{by_entry, gather, gather_done, gather_stops, gathers_due}
+use Rattle.den_lease.proofs.Schedules.{gather, gather_done, gather_stops, gathers_due}
 use Rattle.den_lease.proofs.expiries.Expiries.due.Goals as goal
 use Rattle.den_lease.proofs.expiries.Expiries.due.Goals.{in-None, in-Some+then-moment-entry}
 

@@ -1,12 +1,12 @@
-use Rattle.std.proofs.Common.{◌≡◌, ℕ, List, [], ◌∷◌, Some, false, true, length, true≢false, sym, ap, subst, ◌∙◌, ◌<◌, arith}
+use Rattle.std.proofs.Common.{◌≡◌, ℕ, List, [], Some, false, true, length, true≢false, sym, ap, subst, ◌∙◌, ◌<◌}
 use Rattle.std.specs.Global.{Vec}
-use Rattle.std.specs.List.{All, list_any}
+use Rattle.std.specs.List.{All}
 use Rattle.std.specs.Ordering.{is_gt}
 use Rattle.den_model.specs.Apply.{is_expired}
 use Rattle.den_model.specs.Table.{Table, at, unset}
 use Rattle.den_table.proofs.Sorted.{IsSorted}
 use Rattle.den_lease.specs.Due.{has_due}
-use Rattle.den_lease.specs.Scheduled.{IsScheduleOf, is_entry}
+use Rattle.den_lease.specs.Scheduled.{IsScheduleOf}
 use Rattle.den_lease.proofs.Kept.{fewer_without}
 use Rattle.den_lease.proofs.Schedules.{Changes, by_entry, changed, entry_held, first_is_due, least_of, none_scheduled, nothing, removed}
 use Rattle.den_lease.proofs.expiries.Expiries.take_due.Goals as goal

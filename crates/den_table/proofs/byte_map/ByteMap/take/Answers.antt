@@ -1,4 +1,4 @@
-use Rattle.std.proofs.Common.{subst, ◌∙◌}
+use Rattle.std.proofs.Common.{subst}
 use Rattle.den_table.proofs.KeyedBy.{keyed_at, keyed_unset, same_key}
 use Rattle.den_table.proofs.Sorted.{IsSorted, sorted_keyed}
 use Rattle.den_table.proofs.byte_map.ByteMap.take.Goals as goal
