@@ -14,3 +14,4 @@ pub mod Beginning
 pub mod Sending
 pub mod Stretch
 pub mod Weighing
+pub mod Applied

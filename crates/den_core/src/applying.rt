@@ -7,6 +7,7 @@ ghost use Rattle.den_disk.specs.Goes.{Rose, DiskGoesOn};
 ghost use Rattle.den_model.specs.MapState.{map_applied_all, results_of};
 ghost use Rattle.den_model.specs.Sizes.{entries_size, store_rise};
 ghost use Rattle.den_state.specs.Chunk.{IsChunkRefusal};
+ghost use Rattle.den_state.specs.Machine.{AtRest};
 
 use den_codec::{ApplyResult, Entry, Error, Rows};
 use den_disk::Disk;
@@ -18,8 +19,8 @@ pub(crate) fn apply_at_rest<D: Disk, M: StateMachine<D>>(
     disk: &mut D,
     chunk: &[Entry],
 ) -> Result<Rows<ApplyResult>, Error>
-    requires ready { M.ready state.old }
-    requires rests { IsTrue (D.kind disk.old).tells → M.rests state.old (D.content disk.old) }
+    requires ready { (M.shown state.old).ready }
+    requires rests { IsTrue (D.kind disk.old).tells → AtRest (M.shown state.old) (M.map state.old) (D.content disk.old) }
     requires some { 1 ≤ length chunk.now }
     ensures disk { DiskGoesOn D.kind D.moment D.images D.faults disk.old disk.new }
     ensures own { IsTrue (D.kind disk.old).tells → OldOrNew M.holds (D.images disk.new) (D.moment disk.old) (D.moment disk.new) (M.map state.old) (map_applied_all (M.map state.old) chunk.now) }
@@ -27,11 +28,11 @@ pub(crate) fn apply_at_rest<D: Disk, M: StateMachine<D>>(
     ensures spares { IsTrue (D.kind disk.old).tells → SparesOthers state_family (D.content disk.old) (D.content disk.new) }
     ensures applied { OnOk result (M.map state.new ≡ map_applied_all (M.map state.old) chunk.now) }
     ensures results { IfOk result (λ results. results ≡ results_of (M.map state.old) chunk.now) }
-    ensures ready { OnOk result (M.ready state.new) }
-    ensures rests { OnOk result (IsTrue (D.kind disk.old).tells → M.rests state.new (D.content disk.new)) }
-    ensures weight { OnOk result (M.weight state.new ≤ M.weight state.old + store_rise (entries_size chunk.now)) }
-    ensures refused { IfErr result (λ e. IsChunkRefusal (M.leased state.old) (Rose (D.faults disk.old) (D.faults disk.new)) (D.kind disk.old).limit (M.map state.old).mark.index chunk.now e) }
-    ensures heavy { IfErr result (IsHeavy (D.kind disk.old).limit (M.weight state.old + store_rise (entries_size chunk.now))) }
+    ensures ready { OnOk result (M.shown state.new).ready }
+    ensures rests { OnOk result (IsTrue (D.kind disk.old).tells → AtRest (M.shown state.new) (M.map state.new) (D.content disk.new)) }
+    ensures weight { OnOk result ((M.shown state.new).weight ≤ (M.shown state.old).weight + store_rise (entries_size chunk.now)) }
+    ensures refused { IfErr result (λ e. IsChunkRefusal (M.settings state.old).leased (Rose (D.faults disk.old) (D.faults disk.new)) (D.kind disk.old).limit (M.map state.old).mark.index chunk.now e) }
+    ensures heavy { IfErr result (IsHeavy (D.kind disk.old).limit ((M.shown state.old).weight + store_rise (entries_size chunk.now))) }
 {
     state.apply_chunk(disk, chunk)
 }

@@ -17,6 +17,7 @@ ghost use Rattle.den_core.specs.Parts.{durable_of, kv_of, raised_of, vote_of, Ha
 ghost use Rattle.den_core.specs.Refusals.{FailsOrStays, IsUntouched};
 ghost use Rattle.den_core.specs.Spared.{SparesFamily};
 ghost use Rattle.den_core.specs.Weights.{commit_rise, frame_rise, raise_rise};
+ghost use Rattle.den_state.specs.Machine.{AtRest, rest_hold};
 
 use crate::applying::apply_at_rest;
 use crate::ask::{Asked, answered, ask};
@@ -56,14 +57,14 @@ impl<G, T, M> Engine<G, T, M> {
         M: StateMachine<D>,
         requires log_ready { (G.shown log).ready }
         requires meta_ready { (T.shown meta).ready }
-        requires state_ready { M.ready state }
+        requires state_ready { (M.shown state).ready }
         requires caught_up { IsCaughtUp (G.shown log).value (M.map state) }
         requires plain { IsPlain running }
         ensures kv { ⟦<Engine<G, T, M> as Stepper<D>>⟧.kv result ≡ kv_of (T.shown meta).value (M.map state) running }
         ensures log { ⟦<Engine<G, T, M> as Stepper<D>>⟧.log result ≡ (G.shown log).value }
         ensures ready { ⟦<Engine<G, T, M> as Stepper<D>>⟧.ready result }
-        ensures weight { ⟦<Engine<G, T, M> as Stepper<D>>⟧.weight result ≡ (G.shown log).weight + (T.shown meta).weight + M.weight state }
-        ensures rests { (content : Content) → AllRest ((G.shown log).rests content) ((T.shown meta).rests content) (M.rests state content)
+        ensures weight { ⟦<Engine<G, T, M> as Stepper<D>>⟧.weight result ≡ (G.shown log).weight + (T.shown meta).weight + (M.shown state).weight }
+        ensures rests { (content : Content) → AllRest ((G.shown log).rests content) ((T.shown meta).rests content) (AtRest (M.shown state) (M.map state) content)
             → ⟦<Engine<G, T, M> as Stepper<D>>⟧.rests result content }
     {
         Engine {
@@ -102,10 +103,10 @@ fn raise<D: Disk, G: LogStore<D>, T: MetaStore<D>, M: StateMachine<D>>(
     engine: &mut Engine<G, T, M>,
     disk: &mut D,
 ) -> Result<(), Error>
-    requires ready { IsReady (G.shown engine.old.log).ready (T.shown engine.old.meta).ready (M.ready engine.old.state)
+    requires ready { IsReady (G.shown engine.old.log).ready (T.shown engine.old.meta).ready (M.shown engine.old.state).ready
         (G.shown engine.old.log).value (M.map engine.old.state) engine.old.running }
     requires rests { IsTrue (D.kind disk.old).tells → AllRest ((G.shown engine.old.log).rests (D.content disk.old))
-        ((T.shown engine.old.meta).rests (D.content disk.old)) (M.rests engine.old.state (D.content disk.old)) }
+        ((T.shown engine.old.meta).rests (D.content disk.old)) (AtRest (M.shown engine.old.state) (M.map engine.old.state) (D.content disk.old)) }
     requires room { term_of (T.shown engine.old.meta).value < 2 ^ 64 - 1 }
     ensures disk { DiskGoesOn D.kind D.moment D.images D.faults disk.old disk.new }
     ensures snapshot { IsTrue (D.kind disk.old).tells → SparesFamily snapshot_family D.content D.moment D.images disk.old disk.new }
@@ -117,14 +118,14 @@ fn raise<D: Disk, G: LogStore<D>, T: MetaStore<D>, M: StateMachine<D>>(
     ensures log { (G.shown engine.new.log).value ≡ (G.shown engine.old.log).value }
     ensures map { M.map engine.new.state ≡ M.map engine.old.state }
     ensures running { engine.new.running ≡ engine.old.running }
-    ensures ready { OnOk result (IsReady (G.shown engine.new.log).ready (T.shown engine.new.meta).ready (M.ready engine.new.state)
+    ensures ready { OnOk result (IsReady (G.shown engine.new.log).ready (T.shown engine.new.meta).ready (M.shown engine.new.state).ready
         (G.shown engine.new.log).value (M.map engine.new.state) engine.new.running) }
     ensures rests { OnOk result (IsTrue (D.kind disk.old).tells → AllRest ((G.shown engine.new.log).rests (D.content disk.new))
-        ((T.shown engine.new.meta).rests (D.content disk.new)) (M.rests engine.new.state (D.content disk.new))) }
-    ensures weight { OnOk result ((G.shown engine.new.log).weight + (T.shown engine.new.meta).weight + M.weight engine.new.state
-        ≤ (G.shown engine.old.log).weight + (T.shown engine.old.meta).weight + M.weight engine.old.state + raise_rise) }
+        ((T.shown engine.new.meta).rests (D.content disk.new)) (AtRest (M.shown engine.new.state) (M.map engine.new.state) (D.content disk.new))) }
+    ensures weight { OnOk result ((G.shown engine.new.log).weight + (T.shown engine.new.meta).weight + (M.shown engine.new.state).weight
+        ≤ (G.shown engine.old.log).weight + (T.shown engine.old.meta).weight + (M.shown engine.old.state).weight + raise_rise) }
     ensures refused { IfErr result (λ e. IsRefusal (Rose (D.faults disk.old) (D.faults disk.new)) (D.kind disk.old).limit e) }
-    ensures heavy { IfErr result (IsHeavy (D.kind disk.old).limit ((G.shown engine.old.log).weight + (T.shown engine.old.meta).weight + M.weight engine.old.state + raise_rise)) }
+    ensures heavy { IfErr result (IsHeavy (D.kind disk.old).limit ((G.shown engine.old.log).weight + (T.shown engine.old.meta).weight + (M.shown engine.old.state).weight + raise_rise)) }
     ensures left { IfErr result (λ e. FailsOrStays e (⟦<Engine<G, T, M> as Stepper<D>>⟧.failed engine.new)
         (IsUntouched D.Disk ⟦<Engine<G, T, M> as Stepper<D>>⟧.kv ⟦<Engine<G, T, M> as Stepper<D>>⟧.log ⟦<Engine<G, T, M> as Stepper<D>>⟧.weight ⟦<Engine<G, T, M> as Stepper<D>>⟧.ready ⟦<Engine<G, T, M> as Stepper<D>>⟧.rests engine.old engine.new disk.old disk.new)) }
 {
@@ -143,10 +144,10 @@ fn commit<D: Disk, G: LogStore<D>, T: MetaStore<D>, M: StateMachine<D>>(
     command: Command,
     moment: u64,
 ) -> Result<bool, Error>
-    requires ready { IsReady (G.shown engine.old.log).ready (T.shown engine.old.meta).ready (M.ready engine.old.state)
+    requires ready { IsReady (G.shown engine.old.log).ready (T.shown engine.old.meta).ready (M.shown engine.old.state).ready
         (G.shown engine.old.log).value (M.map engine.old.state) engine.old.running }
     requires rests { IsTrue (D.kind disk.old).tells → AllRest ((G.shown engine.old.log).rests (D.content disk.old))
-        ((T.shown engine.old.meta).rests (D.content disk.old)) (M.rests engine.old.state (D.content disk.old)) }
+        ((T.shown engine.old.meta).rests (D.content disk.old)) (AtRest (M.shown engine.old.state) (M.map engine.old.state) (D.content disk.old)) }
     requires room { (M.map engine.old.state).mark.index < 2 ^ 64 - 1 }
     requires moment { 1 ≤ moment }
     requires no_ttl { has_ttl command ≡ false }
@@ -164,14 +165,14 @@ fn commit<D: Disk, G: LogStore<D>, T: MetaStore<D>, M: StateMachine<D>>(
         (Append (next_entry (kv_of (T.shown engine.old.meta).value (M.map engine.old.state) engine.old.running) moment command ∷ []))) }
     ensures succeeded { IfOk result (λ succeeded. succeeded ≡ succeeds (durable_of (T.shown engine.old.meta).value (M.map engine.old.state)) command) }
     ensures running { engine.new.running ≡ engine.old.running }
-    ensures ready { OnOk result (IsReady (G.shown engine.new.log).ready (T.shown engine.new.meta).ready (M.ready engine.new.state)
+    ensures ready { OnOk result (IsReady (G.shown engine.new.log).ready (T.shown engine.new.meta).ready (M.shown engine.new.state).ready
         (G.shown engine.new.log).value (M.map engine.new.state) engine.new.running) }
     ensures rests { OnOk result (IsTrue (D.kind disk.old).tells → AllRest ((G.shown engine.new.log).rests (D.content disk.new))
-        ((T.shown engine.new.meta).rests (D.content disk.new)) (M.rests engine.new.state (D.content disk.new))) }
-    ensures weight { OnOk result ((G.shown engine.new.log).weight + (T.shown engine.new.meta).weight + M.weight engine.new.state
-        ≤ (G.shown engine.old.log).weight + (T.shown engine.old.meta).weight + M.weight engine.old.state + commit_rise command) }
+        ((T.shown engine.new.meta).rests (D.content disk.new)) (AtRest (M.shown engine.new.state) (M.map engine.new.state) (D.content disk.new))) }
+    ensures weight { OnOk result ((G.shown engine.new.log).weight + (T.shown engine.new.meta).weight + (M.shown engine.new.state).weight
+        ≤ (G.shown engine.old.log).weight + (T.shown engine.old.meta).weight + (M.shown engine.old.state).weight + commit_rise command) }
     ensures refused { IfErr result (λ e. IsRefusal (Rose (D.faults disk.old) (D.faults disk.new)) (D.kind disk.old).limit e) }
-    ensures heavy { IfErr result (IsHeavy (D.kind disk.old).limit ((G.shown engine.old.log).weight + (T.shown engine.old.meta).weight + M.weight engine.old.state + commit_rise command)) }
+    ensures heavy { IfErr result (IsHeavy (D.kind disk.old).limit ((G.shown engine.old.log).weight + (T.shown engine.old.meta).weight + (M.shown engine.old.state).weight + commit_rise command)) }
     ensures whole { OnOk result (engine.new.failed ≡ false) }
     ensures still { IfErr result (λ e. engine.old.failed ≡ true → engine.new.failed ≡ true) }
     ensures left { IfErr result (λ e. FailsOrStays e (⟦<Engine<G, T, M> as Stepper<D>>⟧.failed engine.new)
@@ -195,10 +196,10 @@ fn answer<D: Disk, G: LogStore<D>, T: MetaStore<D>, M: StateMachine<D>>(
     frame: Frame,
     moment: u64,
 ) -> Result<Reply, Error>
-    requires ready { IsReady (G.shown engine.old.log).ready (T.shown engine.old.meta).ready (M.ready engine.old.state)
+    requires ready { IsReady (G.shown engine.old.log).ready (T.shown engine.old.meta).ready (M.shown engine.old.state).ready
         (G.shown engine.old.log).value (M.map engine.old.state) engine.old.running }
     requires rests { IsTrue (D.kind disk.old).tells → AllRest ((G.shown engine.old.log).rests (D.content disk.old))
-        ((T.shown engine.old.meta).rests (D.content disk.old)) (M.rests engine.old.state (D.content disk.old)) }
+        ((T.shown engine.old.meta).rests (D.content disk.old)) (AtRest (M.shown engine.old.state) (M.map engine.old.state) (D.content disk.old)) }
     requires whole { engine.old.failed ≡ false }
     requires moment { 1 ≤ moment }
     ensures disk { DiskGoesOn D.kind D.moment D.images D.faults disk.old disk.new }
@@ -216,14 +217,14 @@ fn answer<D: Disk, G: LogStore<D>, T: MetaStore<D>, M: StateMachine<D>>(
         }) }
     ensures logged { OnOk result ((G.shown engine.new.log).value ≡ appended (G.shown engine.old.log).value
         (answer (kv_of (T.shown engine.old.meta).value (M.map engine.old.state) engine.old.running) moment frame).logged) }
-    ensures ready { OnOk result (IsReady (G.shown engine.new.log).ready (T.shown engine.new.meta).ready (M.ready engine.new.state)
+    ensures ready { OnOk result (IsReady (G.shown engine.new.log).ready (T.shown engine.new.meta).ready (M.shown engine.new.state).ready
         (G.shown engine.new.log).value (M.map engine.new.state) engine.new.running) }
     ensures rests { OnOk result (IsTrue (D.kind disk.old).tells → AllRest ((G.shown engine.new.log).rests (D.content disk.new))
-        ((T.shown engine.new.meta).rests (D.content disk.new)) (M.rests engine.new.state (D.content disk.new))) }
-    ensures weight { OnOk result ((G.shown engine.new.log).weight + (T.shown engine.new.meta).weight + M.weight engine.new.state
-        ≤ (G.shown engine.old.log).weight + (T.shown engine.old.meta).weight + M.weight engine.old.state + frame_rise frame) }
+        ((T.shown engine.new.meta).rests (D.content disk.new)) (AtRest (M.shown engine.new.state) (M.map engine.new.state) (D.content disk.new))) }
+    ensures weight { OnOk result ((G.shown engine.new.log).weight + (T.shown engine.new.meta).weight + (M.shown engine.new.state).weight
+        ≤ (G.shown engine.old.log).weight + (T.shown engine.old.meta).weight + (M.shown engine.old.state).weight + frame_rise frame) }
     ensures refused { IfErr result (λ e. IsRefusal (Rose (D.faults disk.old) (D.faults disk.new)) (D.kind disk.old).limit e) }
-    ensures heavy { IfErr result (IsHeavy (D.kind disk.old).limit ((G.shown engine.old.log).weight + (T.shown engine.old.meta).weight + M.weight engine.old.state + frame_rise frame)) }
+    ensures heavy { IfErr result (IsHeavy (D.kind disk.old).limit ((G.shown engine.old.log).weight + (T.shown engine.old.meta).weight + (M.shown engine.old.state).weight + frame_rise frame)) }
     ensures whole { OnOk result (engine.new.failed ≡ false) }
     ensures left { IfErr result (λ e. FailsOrStays e (⟦<Engine<G, T, M> as Stepper<D>>⟧.failed engine.new)
         (IsUntouched D.Disk ⟦<Engine<G, T, M> as Stepper<D>>⟧.kv ⟦<Engine<G, T, M> as Stepper<D>>⟧.log ⟦<Engine<G, T, M> as Stepper<D>>⟧.weight ⟦<Engine<G, T, M> as Stepper<D>>⟧.ready ⟦<Engine<G, T, M> as Stepper<D>>⟧.rests engine.old engine.new disk.old disk.new)) }
@@ -248,20 +249,20 @@ impl<D: Disk, G: LogStore<D>, T: MetaStore<D>, M: StateMachine<D>> Stepper<D> fo
 
     ghost logs = { λ files. G.holds files };
 
-    ghost rests = { λ e content. AllRest ((G.shown e.log).rests content) ((T.shown e.meta).rests content) (M.rests e.state content) };
+    ghost rests = { λ e content. AllRest ((G.shown e.log).rests content) ((T.shown e.meta).rests content) (AtRest (M.shown e.state) (M.map e.state) content) };
 
-    ghost ready = { λ e. (e.failed ≡ false) × IsReady (G.shown e.log).ready (T.shown e.meta).ready (M.ready e.state) (G.shown e.log).value (M.map e.state) e.running };
+    ghost ready = { λ e. (e.failed ≡ false) × IsReady (G.shown e.log).ready (T.shown e.meta).ready (M.shown e.state).ready (G.shown e.log).value (M.map e.state) e.running };
 
-    ghost failed = { λ e. HasFailed e.failed (G.shown e.log).ready (T.shown e.meta).ready (M.ready e.state) };
+    ghost failed = { λ e. HasFailed e.failed (G.shown e.log).ready (T.shown e.meta).ready (M.shown e.state).ready };
 
-    ghost weight = { λ e. (G.shown e.log).weight + (T.shown e.meta).weight + M.weight e.state };
+    ghost weight = { λ e. (G.shown e.log).weight + (T.shown e.meta).weight + (M.shown e.state).weight };
 
     ghost rests_hold = { λ e content files ready rests image. joined_here (G.holds files) (T.holds files) (M.holds files) (G.shown e.log).value (T.shown e.meta).value (M.map e.state) ready.1.caught_up
-        (G.lies.rests_hold e.log content files ready.1.log rests.log image) (T.lies.rests_hold e.meta content files ready.1.meta rests.meta image) (M.rests_hold e.state content files ready.1.state rests.state image) };
+        (G.lies.rests_hold e.log content files ready.1.log rests.log image) (T.lies.rests_hold e.meta content files ready.1.meta rests.meta image) (rest_hold M.lies e.state (M.map e.state) content files ready.1.state rests.state image) };
 
     ghost rests_log = { λ e content files ready rests image. G.lies.rests_hold e.log content files ready.1.log rests.log image };
 
-    ghost failed_ends = { λ e ready failed. failed_not_ready e.failed (G.shown e.log).ready (T.shown e.meta).ready (M.ready e.state) ready.0 ready.1.log ready.1.meta ready.1.state failed };
+    ghost failed_ends = { λ e ready failed. failed_not_ready e.failed (G.shown e.log).ready (T.shown e.meta).ready (M.shown e.state).ready ready.0 ready.1.log ready.1.meta ready.1.state failed };
 
     fn open_at(&mut self, disk: &mut D, moment: u64) -> Result<(), Error> {
         raise(self, disk)?;

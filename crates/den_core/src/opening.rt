@@ -18,6 +18,7 @@ ghost use Rattle.den_journal.specs.Causes.{IsRefusal};
 ghost use Rattle.den_core.specs.Opening.{agrees, opening_refusal, refusal_by, IsLeft, IsOpeningFailure};
 ghost use Rattle.den_core.specs.Parts.{kv_of, IsPlain, AllRest};
 ghost use Rattle.den_core.specs.Spared.{SparesFamily};
+ghost use Rattle.den_state.specs.Machine.{AtRest};
 
 use crate::applying::apply_at_rest;
 use crate::engine::current_term;
@@ -130,8 +131,8 @@ fn apply_all<D: Disk, M: StateMachine<D>>(
     disk: &mut D,
     entries: &[Entry],
 ) -> Result<(), Error>
-    requires ready { M.ready state.old }
-    requires rests { IsTrue (D.kind disk.old).tells → M.rests state.old (D.content disk.old) }
+    requires ready { (M.shown state.old).ready }
+    requires rests { IsTrue (D.kind disk.old).tells → AtRest (M.shown state.old) (M.map state.old) (D.content disk.old) }
     requires in_order { out_of_order (M.map state.old).mark.index entries.now ≡ None }
     requires no_ttl { asks_lease entries.now ≡ false }
     ensures disk { DiskGoesOn D.kind D.moment D.images D.faults disk.old disk.new }
@@ -139,11 +140,11 @@ fn apply_all<D: Disk, M: StateMachine<D>>(
     ensures others { IsTrue (D.kind disk.old).tells → SparesImages state_family (D.images disk.old) (D.images disk.new) (D.moment disk.old) (D.moment disk.new) }
     ensures spares { IsTrue (D.kind disk.old).tells → SparesOthers state_family (D.content disk.old) (D.content disk.new) }
     ensures applied { OnOk result (M.map state.new ≡ map_applied_all (M.map state.old) entries.now) }
-    ensures ready { OnOk result (M.ready state.new) }
-    ensures rests { OnOk result (IsTrue (D.kind disk.old).tells → M.rests state.new (D.content disk.new)) }
-    ensures weight { OnOk result (M.weight state.new ≤ M.weight state.old + store_rise (entries_size entries.now)) }
+    ensures ready { OnOk result (M.shown state.new).ready }
+    ensures rests { OnOk result (IsTrue (D.kind disk.old).tells → AtRest (M.shown state.new) (M.map state.new) (D.content disk.new)) }
+    ensures weight { OnOk result ((M.shown state.new).weight ≤ (M.shown state.old).weight + store_rise (entries_size entries.now)) }
     ensures refused { IfErr result (λ e. IsRefusal (Rose (D.faults disk.old) (D.faults disk.new)) (D.kind disk.old).limit e) }
-    ensures heavy { IfErr result (IsHeavy (D.kind disk.old).limit (M.weight state.old + store_rise (entries_size entries.now))) }
+    ensures heavy { IfErr result (IsHeavy (D.kind disk.old).limit ((M.shown state.old).weight + store_rise (entries_size entries.now))) }
 {
     if entries.is_empty() {
         return Ok(());
@@ -165,8 +166,8 @@ fn catch_up<D: Disk, G: LogStore<D>, T: MetaStore<D>, M: StateMachine<D>>(
 ) -> Result<Engine<G, T, M>, Error>
     requires log_ready { (G.shown log).ready }
     requires meta_ready { (T.shown meta).ready }
-    requires state_ready { M.ready state }
-    requires rests { IsTrue (D.kind disk.old).tells → AllRest ((G.shown log).rests (D.content disk.old)) ((T.shown meta).rests (D.content disk.old)) (M.rests state (D.content disk.old)) }
+    requires state_ready { (M.shown state).ready }
+    requires rests { IsTrue (D.kind disk.old).tells → AllRest ((G.shown log).rests (D.content disk.old)) ((T.shown meta).rests (D.content disk.old)) (AtRest (M.shown state) (M.map state) (D.content disk.old)) }
     requires plain { IsPlain running }
     requires left { IsLeft (G.shown log).value (M.map state) entries.now }
     requires no_ttl { asks_lease entries.now ≡ false }
@@ -180,9 +181,9 @@ fn catch_up<D: Disk, G: LogStore<D>, T: MetaStore<D>, M: StateMachine<D>>(
     ensures log { IfOk result (λ engine. ⟦<Engine<G, T, M> as Stepper<D>>⟧.log engine ≡ (G.shown log).value) }
     ensures ready { IfOk result (λ engine. ⟦<Engine<G, T, M> as Stepper<D>>⟧.ready engine) }
     ensures rests { IfOk result (λ engine. IsTrue (D.kind disk.old).tells → ⟦<Engine<G, T, M> as Stepper<D>>⟧.rests engine (D.content disk.new)) }
-    ensures weight { IfOk result (λ engine. ⟦<Engine<G, T, M> as Stepper<D>>⟧.weight engine ≤ (G.shown log).weight + (T.shown meta).weight + M.weight state + store_rise (entries_size entries.now)) }
+    ensures weight { IfOk result (λ engine. ⟦<Engine<G, T, M> as Stepper<D>>⟧.weight engine ≤ (G.shown log).weight + (T.shown meta).weight + (M.shown state).weight + store_rise (entries_size entries.now)) }
     ensures refused { IfErr result (λ e. IsRefusal (Rose (D.faults disk.old) (D.faults disk.new)) (D.kind disk.old).limit e) }
-    ensures heavy { IfErr result (IsHeavy (D.kind disk.old).limit ((G.shown log).weight + (T.shown meta).weight + M.weight state + store_rise (entries_size entries.now))) }
+    ensures heavy { IfErr result (IsHeavy (D.kind disk.old).limit ((G.shown log).weight + (T.shown meta).weight + (M.shown state).weight + store_rise (entries_size entries.now))) }
 {
     let mut state = state;
     apply_all(&mut state, disk, entries)?;
@@ -202,8 +203,8 @@ pub fn recover<D: Disk, G: LogStore<D>, T: MetaStore<D>, M: StateMachine<D>>(
 ) -> Result<Engine<G, T, M>, Error>
     requires log_ready { (G.shown log).ready }
     requires meta_ready { (T.shown meta).ready }
-    requires state_ready { M.ready state }
-    requires rests { IsTrue (D.kind disk.old).tells → AllRest ((G.shown log).rests (D.content disk.old)) ((T.shown meta).rests (D.content disk.old)) (M.rests state (D.content disk.old)) }
+    requires state_ready { (M.shown state).ready }
+    requires rests { IsTrue (D.kind disk.old).tells → AllRest ((G.shown log).rests (D.content disk.old)) ((T.shown meta).rests (D.content disk.old)) (AtRest (M.shown state) (M.map state) (D.content disk.old)) }
     requires plain { IsPlain running }
     ensures disk { DiskGoesOn D.kind D.moment D.images D.faults disk.old disk.new }
     ensures snapshot { IsTrue (D.kind disk.old).tells → SparesFamily snapshot_family D.content D.moment D.images disk.old disk.new }
@@ -218,12 +219,12 @@ pub fn recover<D: Disk, G: LogStore<D>, T: MetaStore<D>, M: StateMachine<D>>(
     ensures term { IfOk result (λ engine. (⟦<Engine<G, T, M> as Stepper<D>>⟧.kv engine).durable.term < 2 ^ 64 - 1) }
     ensures index { IfOk result (λ engine. (⟦<Engine<G, T, M> as Stepper<D>>⟧.kv engine).durable.last_index < 2 ^ 64 - 1) }
     ensures weight { IfOk result (λ engine. ⟦<Engine<G, T, M> as Stepper<D>>⟧.weight engine
-        ≤ (G.shown log).weight + (T.shown meta).weight + M.weight state + store_rise (entries_size (above (M.map state).mark.index (G.shown log).value.entries))) }
+        ≤ (G.shown log).weight + (T.shown meta).weight + (M.shown state).weight + store_rise (entries_size (above (M.map state).mark.index (G.shown log).value.entries))) }
     ensures unrefused { OnOk result (opening_refusal (G.place log) (G.shown log).value (T.shown meta).value (M.map state) ≡ None) }
     ensures refused { IfErr result (λ e. IsOpeningFailure (Rose (D.faults disk.old) (D.faults disk.new)) (D.kind disk.old).limit
         (opening_refusal (G.place log) (G.shown log).value (T.shown meta).value (M.map state)) e) }
     ensures heavy { IfErr result (IsHeavy (D.kind disk.old).limit
-        ((G.shown log).weight + (T.shown meta).weight + M.weight state + store_rise (entries_size (above (M.map state).mark.index (G.shown log).value.entries)))) }
+        ((G.shown log).weight + (T.shown meta).weight + (M.shown state).weight + store_rise (entries_size (above (M.map state).mark.index (G.shown log).value.entries)))) }
     ensures untouched { IsSome (opening_refusal (G.place log) (G.shown log).value (T.shown meta).value (M.map state)) → disk.new ≡ disk.old }
 {
     let mark = state.last_applied().index;

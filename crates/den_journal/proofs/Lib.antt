@@ -2,3 +2,4 @@ pub mod Full
 pub mod Joins
 pub mod Moving
 pub mod Opens
+pub mod Seen

@@ -73,7 +73,7 @@ moves_by disk family meaning slot list payload v w old new own was is adds other
 -- ---- the exits at which nothing was written
 
 -- what goes on from where it is
-goes_nowhere : {D : Type 0} (disk : Ghosts D) (d : D) → GoesOn disk d d
+pub goes_nowhere : {D : Type 0} (disk : Ghosts D) (d : D) → GoesOn disk d d
 goes_nowhere disk d = record {
   same = refl;
   counts = le_refl (disk.faults d);

@@ -23,6 +23,10 @@ pub record Change (V : Type 0) : Type 1 where
   pub rise : ℕ
   pub lost : Type 0
 
+-- the same store, of whose value a part is seen
+abbrev pub seen_as : {V W : Type 0} → (V → W) → Shown V → Shown W
+seen_as part s = record { value = part s.value; weight = s.weight; ready = s.ready; rests = s.rests }
+
 -- what is found is one of these values
 abbrev pub IsOneOf : {V : Type 0} → List V → Option V → Type 0
 IsOneOf [] found = ⊥

@@ -1,9 +1,5 @@
-pub mod AnyMark
 pub mod Applying
 pub mod Cleaning
 pub mod Folding
-pub mod Lists
 pub mod Overlay
-pub mod Payloads
 pub mod Scanning
-pub mod Tails

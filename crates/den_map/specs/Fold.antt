@@ -8,20 +8,12 @@ use Rattle.den_model.specs.MapState.{MapState, with_pair}
 use Rattle.den_map.specs.Cleanup.{cleaned_map}
 use Rattle.den_map.specs.declared.fold.FoldError.{FoldError}
 use Rattle.den_map.specs.declared.fold.FoldError.TheVariants.{Memory, Unlawful}
-use Rattle.den_map.specs.declared.fold.ListError.{ListError}
-use Rattle.den_map.specs.declared.fold.ListError.TheVariants as list_error
 
 -- it ends where the definition is lawful, with what the definition gives, unless memory ran out
 abbrev pub Folds : Result Unit FoldError → Option MapState → MapState → Type 0
 Folds (Ok done) given new = given ≡ Some new
 Folds (Err Memory) given new = Unit {0}
 Folds (Err Unlawful) given new = given ≡ None
-
--- the same of a list, whose first unlawful payload has a place
-abbrev pub FoldsList : {A : Type 0} → Result A ListError → Result MapState ℕ → MapState → Type 0
-FoldsList (Ok done) given new = given ≡ Ok new
-FoldsList (Err list_error.Memory) given new = Unit {0}
-FoldsList (Err (list_error.Unlawful offset)) given new = given ≡ Err offset
 
 -- pairs and expiries after a record
 abbrev pub carried : MapState → JournalRecord → MapState

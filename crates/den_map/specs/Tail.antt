@@ -14,8 +14,3 @@ tail_after tail (Mark index term) = tail
 -- the same of a region's word; what is no word counts for nothing
 unfoldable pub tail_after_payload : ℕ → List ℕ → ℕ
 tail_after_payload tail payload = elim (state_region_in payload) [ None ↦ tail | Some region ↦ tail_after tail region ]
-
--- the same of payloads in order
-abbrev pub tail_from : ℕ → List (List ℕ) → ℕ
-tail_from tail [] = tail
-tail_from tail (p ∷ ps) = tail_from (tail_after_payload tail p) ps

@@ -1,10 +1,6 @@
 //! A chunk of entries: its order, whether it asks for a lease, its records over the map, and what the map takes on.
 ghost use Rattle.std.specs.Prelude.{◌≡◌, ◌<◌, ◌≤◌, None, Some, IfOk, OnOk, length};
-ghost use Rattle.den_model.specs.declared.log_id.LogId.{LogId};
-ghost use Rattle.den_model.specs.MapState.{MapState, map_applied, map_applied_all, map_after_record, map_after_records, map_after_payload, results_of};
-ghost use Rattle.den_model.specs.declared.region.StateRegion.TheVariants.{Records};
-ghost use Rattle.den_model.specs.Reading.{state_region_in};
-ghost use Rattle.den_model.specs.Spelling.{state_region_word};
+ghost use Rattle.den_model.specs.MapState.{MapState, map_applied, map_applied_all, map_after_record, map_after_records, results_of};
 ghost use Rattle.den_model.specs.Step.{has_ttl};
 ghost use Rattle.den_map.specs.Journal.{recorded, all_recorded, tells_success};
 ghost use Rattle.den_map.specs.Leases.{asks_lease};
@@ -14,14 +10,13 @@ ghost use Rattle.den_map.specs.Written.{IsOver};
 use crate::fold::place_of;
 use crate::map::Map;
 use crate::writes::Writes;
-use den_codec::{ApplyResult, Command, Entry, JournalRecord, write_records};
+use den_codec::{ApplyResult, Command, Entry, JournalRecord};
 use std::alloc::{AllocError, Global};
 
-/// What entries leave: the records of their outcomes, the word of a region of them, and a result for each.
+/// What entries leave: the records of their outcomes, and a result for each.
 #[derive(Drop)]
 pub struct Journaled {
     pub records: Vec<JournalRecord>,
-    pub payload: Vec<u8>,
     pub results: Vec<ApplyResult>,
 }
 
@@ -90,15 +85,11 @@ impl Map {
         Ok(journaled)
     }
 
-    /// The records and the results of entries in order, and the word of the region of the records, which gives what the
-    /// entries make of the map, also over an older mark. The map stays as it is.
+    /// The records and the results of entries in order. The records give what the entries make of the map. The map stays
+    /// as it is.
     pub fn journal(&self, alloc: Global, chunk: &[Entry]) -> Result<Journaled, AllocError>
         requires { out_of_order self.now.mark.index chunk.now ≡ None }
         ensures records { IfOk result (λ journaled. journaled.records.items ≡ all_recorded self.now chunk.now) }
-        ensures payload { IfOk result (λ journaled. journaled.payload.items ≡ state_region_word (Records (all_recorded self.now chunk.now))) }
-        ensures reads { IfOk result (λ journaled. state_region_in journaled.payload.items ≡ Some (Records (all_recorded self.now chunk.now))) }
-        ensures means { IfOk result (λ journaled. (from : LogId) → from.index ≤ self.now.mark.index → 1 ≤ length chunk.now
-            → map_after_payload (record self.now { mark = from }) journaled.payload.items ≡ Some (map_applied_all self.now chunk.now)) }
         ensures lawful { IfOk result (λ journaled. map_after_records self.now journaled.records.items ≡ Some (map_applied_all self.now chunk.now)) }
         ensures results { IfOk result (λ journaled. journaled.results.items ≡ results_of self.now chunk.now) }
     {
@@ -113,33 +104,6 @@ impl Map {
             })?;
             records.push(journaled)?;
         }
-        let mut payload = Vec::new(alloc);
-        write_records(&records, &mut payload)?;
-        Ok(Journaled {
-            records,
-            payload,
-            results,
-        })
-    }
-
-    // Takes on a record that is lawful.
-    fn follow(&mut self, alloc: Global, journaled: &JournalRecord) -> Result<(), AllocError>
-        ensures { OnOk result ((next : MapState) → map_after_record self.old journaled.now ≡ Some next → self.new ≡ next) }
-    {
-        self.carry_out(alloc, journaled)?;
-        if let Some(place) = place_of(journaled) {
-            self.set_mark(place);
-        }
-        Ok(())
-    }
-
-    /// Takes on records that are lawful, as those of entries in order are. Where memory is wanting it may have taken on some.
-    pub fn take_on(&mut self, alloc: Global, records: &[JournalRecord]) -> Result<(), AllocError>
-        ensures map { OnOk result ((next : MapState) → map_after_records self.old records.now ≡ Some next → self.new ≡ next) }
-    {
-        for journaled in records {
-            self.follow(alloc, journaled)?;
-        }
-        Ok(())
+        Ok(Journaled { records, results })
     }
 }

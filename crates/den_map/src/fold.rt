@@ -1,13 +1,12 @@
 //! The fold over the journal: what records and regions make of the map.
-ghost use Rattle.std.specs.Prelude.{◌≡◌, ◌<◌, ◌^◌, IfOk, OnOk, length};
-ghost use Rattle.den_model.specs.MapState.{with_pairs, map_after_record, map_after_records, map_after, map_after_payload, map_from};
-ghost use Rattle.den_model.specs.Regions.{open_regions, placed};
+ghost use Rattle.std.specs.Prelude.{◌≡◌, Some, None, IsTrue, IfOk, OnOk, if◌then◌else◌};
+ghost use Rattle.den_model.specs.MapState.{with_pairs, map_after_record, map_after_records, map_after, map_after_payload};
 ghost use Rattle.den_map.specs.declared.fold.FoldError.TheVariants.{Memory};
-ghost use Rattle.den_map.specs.Fold.{Folds, FoldsList, place_of};
-ghost use Rattle.den_map.specs.Tail.{tail_after, tail_after_payload, tail_from};
+ghost use Rattle.den_map.specs.Fold.{Folds, place_of};
+ghost use Rattle.den_map.specs.Tail.{tail_after, tail_after_payload};
 
 use crate::map::Map;
-use den_codec::{Blob, Held, JournalRecord, LogId, StateRegion, StoredPair, Word};
+use den_codec::{Held, JournalRecord, LogId, StateRegion, StoredPair, Word};
 use std::alloc::{AllocError, Global};
 
 // Want of memory, or what is not lawful.
@@ -15,13 +14,6 @@ use std::alloc::{AllocError, Global};
 pub(crate) enum FoldError {
     Memory,
     Unlawful,
-}
-
-/// Want of memory, or the place of a payload that is no lawful region.
-#[derive(Debug, Drop)]
-pub enum ListError {
-    Memory,
-    Unlawful { offset: u64 },
 }
 
 impl From<AllocError> for FoldError {
@@ -48,8 +40,8 @@ pub(crate) fn place_of(journaled: &JournalRecord) -> Option<LogId>
     }
 }
 
-// How many records follow the last Begin region behind this one, where so many do before it.
-fn tail_after(tail: u64, region: &StateRegion) -> u64
+/// How many records follow the last Begin region behind this one, where so many do before it.
+pub fn tail_after(tail: u64, region: &StateRegion) -> u64
     ensures { result ≡ tail_after tail region.now }
 {
     match region {
@@ -152,26 +144,28 @@ impl Map {
         }
     }
 
-    /// Takes on payloads in order, the first of them at place 0, whose regions have fewer than 2^64 bytes in all. Answers
-    /// how many records follow the last Begin region. The first payload that is no lawful region is refused by its place;
-    /// after a refusal the map may have taken on some.
-    pub fn add_list(&mut self, alloc: Global, list: &[Blob]) -> Result<u64, ListError>
-        ensures map { length (open_regions list.now) < 2 ^ 64 → FoldsList result (map_from self.old (placed 0 list.now)) self.new }
-        ensures tail { IfOk result (λ tail. tail ≡ tail_from 0 list.now) }
+    /// Takes on the region whose word the payload is, and counts the records that follow the last Begin region then. False
+    /// where the payload is no lawful region, of which the map may have taken on some.
+    pub fn add(&mut self, alloc: Global, payload: &[u8], tail: &mut u64) -> Result<bool, AllocError>
+        ensures map { IfOk result (λ lawful. map_after_payload self.old payload.now ≡ (if lawful then Some self.new else None)) }
+        ensures tail { IfOk result (λ lawful. IsTrue lawful → tail.new ≡ tail_after_payload tail.old payload.now) }
     {
-        let mut offset = 0u64;
-        let mut tail = 0u64;
-        for payload in list {
-            let payload = payload.as_slice();
-            match self.add_payload(alloc, payload, &mut tail) {
-                Ok(()) => {}
-                Err(FoldError::Memory) => return Err(ListError::Memory),
-                Err(FoldError::Unlawful) => return Err(ListError::Unlawful { offset }),
-            }
-            offset = offset
-                .saturating_add(9)
-                .saturating_add(payload.len() as u64);
+        match self.add_payload(alloc, payload, tail) {
+            Ok(()) => Ok(true),
+            Err(FoldError::Unlawful) => Ok(false),
+            Err(FoldError::Memory) => Err(AllocError),
         }
-        Ok(tail)
+    }
+
+    /// Takes on a region that is lawful. Where memory is wanting it may have taken on some of it.
+    pub fn follow(&mut self, alloc: Global, region: &StateRegion) -> Result<(), AllocError>
+        requires lawful { map_after self.old region.now ≡ None → ⊥ }
+        ensures { OnOk result (map_after self.old region.now ≡ Some self.new) }
+    {
+        match self.add_region(alloc, region) {
+            Ok(()) => Ok(()),
+            Err(FoldError::Unlawful) => unreachable!(),
+            Err(FoldError::Memory) => Err(AllocError),
+        }
     }
 }

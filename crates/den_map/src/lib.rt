@@ -16,5 +16,5 @@ mod map;
 mod writes;
 
 pub use chunk::{Journaled, asks_lease, has_ttl, out_of_order};
-pub use fold::ListError;
+pub use fold::tail_after;
 pub use map::Map;

@@ -14,7 +14,6 @@ use Rattle.den_model.specs.Kv.{Durable}
 use Rattle.den_model.specs.Log.{Log, above}
 use Rattle.den_model.specs.MapState.{MapState}
 use Rattle.den_model.specs.Image.{Corruption, recovered, of_family, or_corrupt, ◌>>=◌, slot_of, log_in, hard_state_held, map_in, durable, durable_in, joined, ok}
-use Rattle.den_state.specs.Machine.{IsOpeningRefusal as IsStateRefusal}
 use Rattle.den_journal.specs.Causes.{IsRefusal}
 use Rattle.den_store.specs.Engine.{IsFirstCorrupt}
 use Rattle.den_journal.specs.Folding.{IsUnread}
@@ -85,20 +84,6 @@ unread_refused rose rose' told refusal corrupt error.ProposeFailed grow sound h 
 unread_refused rose rose' told refusal corrupt (error.UnorderedChunk index) grow sound h = absurd h
 unread_refused rose rose' told refusal corrupt (error.Config place) grow sound h = absurd h
 unread_refused rose rose' told refusal corrupt error.StateMachineError grow sound h = absurd h
-
-pub state_refused : (rose rose' told : Type 0) (refusal : Option Error) (tells : Bool) (files : Files) (e : Error) → (rose → rose')
-    → ((place offset : ℕ) → (IsTrue tells → (place ≡ place_number (slot_of family.State files)) × (map_in files ≡ Err offset)) → told → refusal ≡ Some (error.DataCorruption place offset))
-    → IsStateRefusal rose tells files e → IsUnreadFolder rose' told refusal e
-state_refused rose rose' told refusal tells files error.OutOfMemory grow sound h = h
-state_refused rose rose' told refusal tells files error.StorageIoError grow sound h = grow h
-state_refused rose rose' told refusal tells files (error.DataCorruption place offset) grow sound h = sound place offset h
-state_refused rose rose' told refusal tells files (error.DiskFull needed limit) grow sound h = absurd h
-state_refused rose rose' told refusal tells files error.LinkFault grow sound h = absurd h
-state_refused rose rose' told refusal tells files error.FeatureNotEnabled grow sound h = absurd h
-state_refused rose rose' told refusal tells files error.ProposeFailed grow sound h = absurd h
-state_refused rose rose' told refusal tells files (error.UnorderedChunk index) grow sound h = absurd h
-state_refused rose rose' told refusal tells files (error.Config place) grow sound h = absurd h
-state_refused rose rose' told refusal tells files error.StateMachineError grow sound h = absurd h
 
 pub folder_refused : (rose told : Type 0) (most : ℕ) (refusal : Option Error) (e : Error) → IsUnreadFolder rose told refusal e → IsOpeningRefusal rose most told refusal e
 folder_refused rose told most refusal error.OutOfMemory h = h

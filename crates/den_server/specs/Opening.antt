@@ -16,7 +16,7 @@ use Rattle.den_store.specs.FileLog.{log_shown}
 use Rattle.den_store.specs.FileMeta.{meta_shown}
 use Rattle.den_map.specs.Leases.{asks_lease, has_expiry}
 use Rattle.den_state.specs.declared.file_machine.FileStateMachine.{FileStateMachine}
-use Rattle.den_state.specs.Machine.{state_weight}
+use Rattle.den_state.specs.FileState.{state_shown}
 use Rattle.den_core.specs.Opening.{refusal_for}
 
 -- whether a key has an expiry, or an entry above the map's mark a time to live
@@ -44,7 +44,7 @@ pub record AllReady (log_ready meta_ready state_ready : Type 0) : Type 0 where
 
 -- what the three weigh
 abbrev pub held_weight : FileLogStore → FileMetaStore → FileStateMachine → ℕ
-held_weight log meta state = (log_shown log).weight + (meta_shown meta).weight + state_weight state
+held_weight log meta state = (log_shown log).weight + (meta_shown meta).weight + (state_shown state).weight
 
 -- how heavy an engine is, at most, that was opened over files with so many bytes of regions
 abbrev pub opened_weight : ℕ → ℕ

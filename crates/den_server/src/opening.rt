@@ -16,7 +16,8 @@ ghost use Rattle.den_codec.specs.Full.{IsHeavy};
 ghost use Rattle.den_codec.specs.Standard.{entered, running_of};
 ghost use Rattle.den_store.specs.FileLog.{log_shown, file_place};
 ghost use Rattle.den_store.specs.FileMeta.{meta_shown};
-ghost use Rattle.den_state.specs.Machine.{IsReady, Rests};
+ghost use Rattle.den_state.specs.FileState.{state_map, state_shown};
+ghost use Rattle.den_state.specs.Machine.{AtRest};
 ghost use Rattle.den_core.specs.Parts.{AllRest};
 ghost use Rattle.den_server.specs.Causes.{IsOpeningRefusal, IsUnreadFolder};
 ghost use Rattle.den_server.specs.Opening.{refusal_in, AllReady, IsRead, IsUnwritten, Settles, SurvivesOpening, held_weight, opened_weight};
@@ -84,12 +85,12 @@ fn open_stores<D: Disk>(alloc: Global, disk: &mut D, data_dir: Label) -> Result<
     ensures spares { IsTrue (D.kind disk.old).tells → SparesAll (D.content disk.old) (D.content disk.new) }
     ensures settles { IsTrue (D.kind disk.old).tells → Settles (D.images disk.new) (D.moment disk.old) (D.moment disk.new) (IsOk result)
         (D.content disk.new ≡ D.content disk.old) (D.content disk.old).reading }
-    ensures read { IfOk result (λ s. IsTrue (D.kind disk.old).tells → IsRead (D.content disk.old).reading (log_shown s.log).value (meta_shown s.meta).value s.state.map) }
+    ensures read { IfOk result (λ s. IsTrue (D.kind disk.old).tells → IsRead (D.content disk.old).reading (log_shown s.log).value (meta_shown s.meta).value (state_map s.state)) }
     ensures place { IfOk result (λ s. IsTrue (D.kind disk.old).tells → file_place s.log ≡ place_number (slot_of log_family (D.content disk.old).reading)) }
     ensures weight { IfOk result (λ s. IsTrue (D.kind disk.old).tells → held_weight s.log s.meta s.state ≤ 768 + 4 * files_size (D.content disk.old).reading) }
     ensures entries { IfOk result (λ s. IsTrue (D.kind disk.old).tells → entries_size (log_shown s.log).value.entries ≤ files_size (D.content disk.old).reading) }
-    ensures ready { IfOk result (λ s. AllReady (log_shown s.log).ready (meta_shown s.meta).ready (IsReady s.state)) }
-    ensures rests { IfOk result (λ s. IsTrue (D.kind disk.old).tells → AllRest ((log_shown s.log).rests (D.content disk.new)) ((meta_shown s.meta).rests (D.content disk.new)) (Rests s.state (D.content disk.new))) }
+    ensures ready { IfOk result (λ s. AllReady (log_shown s.log).ready (meta_shown s.meta).ready (state_shown s.state).ready) }
+    ensures rests { IfOk result (λ s. IsTrue (D.kind disk.old).tells → AllRest ((log_shown s.log).rests (D.content disk.new)) ((meta_shown s.meta).rests (D.content disk.new)) (AtRest (state_shown s.state) (state_map s.state) (D.content disk.new))) }
     ensures refused { IfErr result (IsUnreadFolder (Rose (D.faults disk.old) (D.faults disk.new)) (IsTrue (D.kind disk.old).tells) (refusal_in (D.content disk.old).reading)) }
 {
     let storage = match FileStorageEngine::new(alloc, data_dir, disk) {

@@ -1,5 +1,5 @@
 -- Why a chunk of entries is refused.
-use Rattle.std.specs.Prelude.{◌≡◌, ◌<◌, ◌⊎◌, ℕ, Bool, true, false, List, Some, None}
+use Rattle.std.specs.Prelude.{◌≡◌, ◌<◌, ℕ, Bool, true, false, List, Option, Some, None, if◌then◌else◌}
 use Rattle.den_codec.specs.declared.error.Error.{Error}
 use Rattle.den_codec.specs.declared.error.Error.TheVariants.{OutOfMemory, StorageIoError, DiskFull, FeatureNotEnabled, UnorderedChunk}
 use Rattle.den_model.specs.Entries.{LogEntry}
@@ -16,19 +16,6 @@ IsChunkRefusal leased rose most mark chunk StorageIoError = (out_of_order mark c
 IsChunkRefusal leased rose most mark chunk (DiskFull needed limit) = (out_of_order mark chunk ≡ None) × (lacks_lease leased chunk ≡ false) × (limit < needed) × (limit ≡ most)
 IsChunkRefusal leased rose most mark chunk _ = ⊥
 
--- what a refusal leaves: all as it was, or a state machine of no more use; want of memory either, as it comes before
--- the first write or after it
-abbrev pub LeavesOrEnds : (untouched ended : Type 0) → Error → Type 0
-LeavesOrEnds untouched ended (UnorderedChunk index) = untouched
-LeavesOrEnds untouched ended FeatureNotEnabled = untouched
-LeavesOrEnds untouched ended OutOfMemory = untouched ⊎ ended
-LeavesOrEnds untouched ended StorageIoError = ended
-LeavesOrEnds untouched ended (DiskFull needed limit) = ended
-LeavesOrEnds untouched ended _ = Unit {0}
-
--- the same of a call that takes memory before its first write alone
-abbrev pub Leaves : (untouched ended : Type 0) → Error → Type 0
-Leaves untouched ended OutOfMemory = untouched
-Leaves untouched ended StorageIoError = ended
-Leaves untouched ended (DiskFull needed limit) = ended
-Leaves untouched ended _ = Unit {0}
+-- the refusal of a chunk behind this mark: for its order, then for a time to live without a lease
+abbrev pub refusal_of_chunk : Bool → ℕ → List LogEntry → Option Error
+refusal_of_chunk leased mark chunk = elim (out_of_order mark chunk) [ Some index ↦ Some (UnorderedChunk index) | None ↦ if lacks_lease leased chunk then Some FeatureNotEnabled else None ]

@@ -1,4 +1,7 @@
+pub mod Changes
 pub mod Chunk
 pub mod Cleanup
-pub mod Laws
+pub mod FileState
+pub mod Folds
 pub mod Machine
+pub mod Stored

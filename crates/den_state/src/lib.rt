@@ -1,23 +1,29 @@
-//! The state machine: the map in memory over its journal in files, with the applied mark and the stored one.
+//! The state machine: a map of pairs and expiries over its journal in files, with the mark that is applied and the one that
+//! is stored.
 //!
-//! A chunk of entries becomes one region of records in `state.a`; a cleanup one region of its own; a mark that is
-//! stored, too. The map in memory takes each on behind the write.
+//! `StateMachine` is the trait, and `FileStateMachine` its body: a journal (den_journal) of the map with the stored mark
+//! (`StoredMap`), and beside it the applied mark, whether a lease is configured, whether it runs, and what was last said of
+//! a snapshot. A chunk of entries is one region of their records, a mark one region, a cleanup one region.
 //!
-//! Invariants, and where each stands:
+//! Invariants:
 //!
-//! 1. The regions of the files, folded, give the map with the stored mark, which is not above the applied one: `keeps`
-//!    of `StateMachine`; where the marks are one, `rests`.
-//! 2. A crash inside a call leaves the old map with its stored mark, or the new one: `own` of each writing call.
-//! 3. Records that follow the last Begin region are counted: `short`.
-//! 4. Want of memory before the write leaves all as it was; behind it the machine has failed, and is opened anew:
-//!    `failed`.
+//! 1. The regions of the State family's slot in use give pairs, expiries and the stored mark in memory: `rests` of
+//!    `state_shown` (specs/FileState.antt). The same regions give the count of records behind the last Begin region.
+//! 2. The map differs from what its files give in the mark alone, which is never below the stored one: the laws `seen` and
+//!    `below`, the ghost field `below` of `FileStateMachine`.
+//! 3. A chunk out of order, or with a time to live where no lease is configured, changes nothing: `turned_away`.
+//! 4. A crash inside a call leaves the old stored map or the new one: `writes`.
+//! 5. Want of memory behind the write of a chunk ends the machine, with the chunk in its files: `IsLost` (den_journal).
+//!
+//!     let mut machine = FileStateMachine::new(alloc, &mut disk, None)?;
+//!     let results = machine.apply_chunk(&mut disk, chunk)?;
+//!     machine.close(&mut disk)?;
 #![tactic(auto)]
 
 mod cleanup;
 mod file_machine;
-mod holding;
 mod machine;
-mod marks;
+mod stored_map;
 #[cfg(test)]
 mod tests;
 

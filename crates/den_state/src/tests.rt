@@ -1,6 +1,6 @@
 //! Worked rows: swaps, refusals, marks, a scan, leases, and the bytes of regions.
 ghost use Rattle.std.specs.Prelude.{◌≡◌, ◌≤◌, [], IfSome, IfOk, OnOk};
-ghost use Rattle.den_state.specs.Machine.{IsReady, Keeps};
+ghost use Rattle.den_state.specs.FileState.{state_map, state_shown};
 
 mod random;
 
@@ -137,8 +137,8 @@ struct Bench {
 
 impl Bench {
     fn open(alloc: Global, mut disk: MemDisk, leased: bool) -> Result<Bench, Fail>
-        ensures ready { IfOk result (λ b. IsReady b.machine) }
-        ensures keeps { IfOk result (λ b. Keeps b.machine (⟦<MemDisk as Disk>⟧.content b.disk)) }
+        ensures ready { IfOk result (λ b. (state_shown b.machine).ready) }
+        ensures keeps { IfOk result (λ b. (state_shown b.machine).rests (⟦<MemDisk as Disk>⟧.content b.disk)) }
     {
         let machine = FileStateMachine::new(alloc, &mut disk, lease_of(alloc, leased))?;
         Ok(Bench {
@@ -150,8 +150,8 @@ impl Bench {
 
     // Opened anew after a crash, with a lease or without one.
     fn crashed_to(self, choice: u64, leased: bool) -> Result<Bench, Fail>
-        ensures ready { IfOk result (λ b. IsReady b.machine) }
-        ensures keeps { IfOk result (λ b. Keeps b.machine (⟦<MemDisk as Disk>⟧.content b.disk)) }
+        ensures ready { IfOk result (λ b. (state_shown b.machine).ready) }
+        ensures keeps { IfOk result (λ b. (state_shown b.machine).rests (⟦<MemDisk as Disk>⟧.content b.disk)) }
     {
         let Bench {
             alloc,
@@ -164,27 +164,27 @@ impl Bench {
 
     // The same with a lease where it had one.
     fn crashed(self, choice: u64) -> Result<Bench, Fail>
-        ensures ready { IfOk result (λ b. IsReady b.machine) }
-        ensures keeps { IfOk result (λ b. Keeps b.machine (⟦<MemDisk as Disk>⟧.content b.disk)) }
+        ensures ready { IfOk result (λ b. (state_shown b.machine).ready) }
+        ensures keeps { IfOk result (λ b. (state_shown b.machine).rests (⟦<MemDisk as Disk>⟧.content b.disk)) }
     {
         let leased = self.machine.leased;
         self.crashed_to(choice, leased)
     }
 
     fn apply_entries(&mut self, chunk: &[Entry]) -> Result<Rows<ApplyResult>, Fail>
-        requires ready { IsReady self.old.machine }
-        requires keeps { Keeps self.old.machine (⟦<MemDisk as Disk>⟧.content self.old.disk) }
-        ensures ready { OnOk result (IsReady self.new.machine) }
-        ensures keeps { OnOk result (Keeps self.new.machine (⟦<MemDisk as Disk>⟧.content self.new.disk)) }
+        requires ready { (state_shown self.old.machine).ready }
+        requires keeps { (state_shown self.old.machine).rests (⟦<MemDisk as Disk>⟧.content self.old.disk) }
+        ensures ready { OnOk result ((state_shown self.new.machine).ready) }
+        ensures keeps { OnOk result ((state_shown self.new.machine).rests (⟦<MemDisk as Disk>⟧.content self.new.disk)) }
     {
         Ok(self.machine.apply_chunk(&mut self.disk, chunk)?)
     }
 
     fn apply(&mut self, writes: &[(u64, Write)]) -> Result<Rows<ApplyResult>, Fail>
-        requires ready { IsReady self.old.machine }
-        requires keeps { Keeps self.old.machine (⟦<MemDisk as Disk>⟧.content self.old.disk) }
-        ensures ready { OnOk result (IsReady self.new.machine) }
-        ensures keeps { OnOk result (Keeps self.new.machine (⟦<MemDisk as Disk>⟧.content self.new.disk)) }
+        requires ready { (state_shown self.old.machine).ready }
+        requires keeps { (state_shown self.old.machine).rests (⟦<MemDisk as Disk>⟧.content self.old.disk) }
+        ensures ready { OnOk result ((state_shown self.new.machine).ready) }
+        ensures keeps { OnOk result ((state_shown self.new.machine).rests (⟦<MemDisk as Disk>⟧.content self.new.disk)) }
     {
         let chunk = entries_of(self.alloc, writes)?;
         self.apply_entries(chunk.as_slice())
@@ -192,8 +192,8 @@ impl Bench {
 
     // Why these entries are refused.
     fn refusal(&mut self, writes: &[(u64, Write)]) -> Result<Option<Error>, Fail>
-        requires ready { IsReady self.old.machine }
-        requires keeps { Keeps self.old.machine (⟦<MemDisk as Disk>⟧.content self.old.disk) }
+        requires ready { (state_shown self.old.machine).ready }
+        requires keeps { (state_shown self.old.machine).rests (⟦<MemDisk as Disk>⟧.content self.old.disk) }
     {
         let chunk = entries_of(self.alloc, writes)?;
         Ok(
@@ -205,7 +205,7 @@ impl Bench {
 
     // The mark, or one of its term at the applied index where that is above it.
     fn raised(&self, mark: LogId) -> LogId
-        ensures { self.now.machine.map.mark.index ≤ result.index }
+        ensures { (state_map self.now.machine).mark.index ≤ result.index }
     {
         LogId {
             index: mark.index.max(self.last_applied().index),
@@ -215,10 +215,10 @@ impl Bench {
 
     // Moves the applied mark, in memory alone, and never down.
     fn move_mark(&mut self, mark: LogId)
-        requires ready { IsReady self.old.machine }
-        requires keeps { Keeps self.old.machine (⟦<MemDisk as Disk>⟧.content self.old.disk) }
-        ensures ready { IsReady self.new.machine }
-        ensures keeps { Keeps self.new.machine (⟦<MemDisk as Disk>⟧.content self.new.disk) }
+        requires ready { (state_shown self.old.machine).ready }
+        requires keeps { (state_shown self.old.machine).rests (⟦<MemDisk as Disk>⟧.content self.old.disk) }
+        ensures ready { (state_shown self.new.machine).ready }
+        ensures keeps { (state_shown self.new.machine).rests (⟦<MemDisk as Disk>⟧.content self.new.disk) }
     {
         let last_applied = self.raised(mark);
         StateMachine::<MemDisk>::update_last_applied(&mut self.machine, last_applied);
@@ -226,8 +226,8 @@ impl Bench {
 
     // Moves the applied mark and the stored one, never down.
     fn persist_mark(&mut self, mark: LogId) -> Result<(), Fail>
-        requires ready { IsReady self.old.machine }
-        requires keeps { Keeps self.old.machine (⟦<MemDisk as Disk>⟧.content self.old.disk) }
+        requires ready { (state_shown self.old.machine).ready }
+        requires keeps { (state_shown self.old.machine).rests (⟦<MemDisk as Disk>⟧.content self.old.disk) }
     {
         let last_applied = self.raised(mark);
         self.machine
@@ -236,8 +236,8 @@ impl Bench {
     }
 
     fn save(&mut self) -> Result<(), Fail>
-        requires ready { IsReady self.old.machine }
-        requires keeps { Keeps self.old.machine (⟦<MemDisk as Disk>⟧.content self.old.disk) }
+        requires ready { (state_shown self.old.machine).ready }
+        requires keeps { (state_shown self.old.machine).rests (⟦<MemDisk as Disk>⟧.content self.old.disk) }
     {
         self.machine.save_hard_state(&mut self.disk)?;
         Ok(())
@@ -245,10 +245,10 @@ impl Bench {
 
     // Opened anew without a lease, after its close and a crash.
     fn closed(self) -> Result<Bench, Fail>
-        requires ready { IsReady self.machine }
-        requires keeps { Keeps self.machine (⟦<MemDisk as Disk>⟧.content self.disk) }
-        ensures ready { IfOk result (λ b. IsReady b.machine) }
-        ensures keeps { IfOk result (λ b. Keeps b.machine (⟦<MemDisk as Disk>⟧.content b.disk)) }
+        requires ready { (state_shown self.machine).ready }
+        requires keeps { (state_shown self.machine).rests (⟦<MemDisk as Disk>⟧.content self.disk) }
+        ensures ready { IfOk result (λ b. (state_shown b.machine).ready) }
+        ensures keeps { IfOk result (λ b. (state_shown b.machine).rests (⟦<MemDisk as Disk>⟧.content b.disk)) }
     {
         let Bench {
             alloc,
@@ -262,10 +262,10 @@ impl Bench {
 
     // Moves the mark and stores it, and opens anew without a lease after a crash.
     fn with_mark(mut self, mark: LogId, storing: Storing) -> Result<Bench, Fail>
-        requires ready { IsReady self.machine }
-        requires keeps { Keeps self.machine (⟦<MemDisk as Disk>⟧.content self.disk) }
-        ensures ready { IfOk result (λ b. IsReady b.machine) }
-        ensures keeps { IfOk result (λ b. Keeps b.machine (⟦<MemDisk as Disk>⟧.content b.disk)) }
+        requires ready { (state_shown self.machine).ready }
+        requires keeps { (state_shown self.machine).rests (⟦<MemDisk as Disk>⟧.content self.disk) }
+        ensures ready { IfOk result (λ b. (state_shown b.machine).ready) }
+        ensures keeps { IfOk result (λ b. (state_shown b.machine).rests (⟦<MemDisk as Disk>⟧.content b.disk)) }
     {
         match storing {
             Storing::Persist => self.persist_mark(mark)?,
@@ -282,10 +282,10 @@ impl Bench {
     }
 
     fn set_lease(&mut self)
-        requires ready { IsReady self.old.machine }
-        requires keeps { Keeps self.old.machine (⟦<MemDisk as Disk>⟧.content self.old.disk) }
-        ensures ready { IsReady self.new.machine }
-        ensures keeps { Keeps self.new.machine (⟦<MemDisk as Disk>⟧.content self.new.disk) }
+        requires ready { (state_shown self.old.machine).ready }
+        requires keeps { (state_shown self.old.machine).rests (⟦<MemDisk as Disk>⟧.content self.old.disk) }
+        ensures ready { (state_shown self.new.machine).ready }
+        ensures keeps { (state_shown self.new.machine).rests (⟦<MemDisk as Disk>⟧.content self.new.disk) }
     {
         self.machine
             .set_lease(DefaultLease::new(self.alloc, CONFIG));
@@ -293,10 +293,10 @@ impl Bench {
     }
 
     fn clean_up(&mut self, now: u64) -> Result<Rows<Blob>, Fail>
-        requires ready { IsReady self.old.machine }
-        requires keeps { Keeps self.old.machine (⟦<MemDisk as Disk>⟧.content self.old.disk) }
-        ensures ready { OnOk result (IsReady self.new.machine) }
-        ensures keeps { OnOk result (Keeps self.new.machine (⟦<MemDisk as Disk>⟧.content self.new.disk)) }
+        requires ready { (state_shown self.old.machine).ready }
+        requires keeps { (state_shown self.old.machine).rests (⟦<MemDisk as Disk>⟧.content self.old.disk) }
+        ensures ready { OnOk result ((state_shown self.new.machine).ready) }
+        ensures keeps { OnOk result ((state_shown self.new.machine).rests (⟦<MemDisk as Disk>⟧.content self.new.disk)) }
     {
         Ok(self.machine.lease_background_cleanup(&mut self.disk, now)?)
     }
@@ -314,7 +314,7 @@ impl Bench {
     }
 
     fn last_applied(&self) -> LogId
-        ensures { result ≡ self.now.machine.map.mark }
+        ensures { result ≡ (state_map self.now.machine).mark }
     {
         StateMachine::<MemDisk>::last_applied(&self.machine)
     }

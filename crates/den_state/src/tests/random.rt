@@ -1,6 +1,6 @@
 //! Random chunks and cleanups, some stopped in their midst, beside a plain list of rows.
 ghost use Rattle.std.specs.Prelude.{◌≡◌, IfOk, OnOk};
-ghost use Rattle.den_state.specs.Machine.{IsReady, Keeps};
+ghost use Rattle.den_state.specs.FileState.{state_map, state_shown};
 
 use super::{Bench, FIRST_KEY, Write, blob, entries_of};
 use crate::StateMachine;
@@ -160,10 +160,10 @@ fn unless_stopped<T: Drop>(answer: Result<T, Error>) -> Result<Option<T>, Fail> 
 
 impl Bench {
     fn make(&mut self, work: &Work) -> Result<Answer, Fail>
-        requires ready { IsReady self.old.machine }
-        requires keeps { Keeps self.old.machine (⟦<MemDisk as Disk>⟧.content self.old.disk) }
-        ensures ready { OnOk result (IsReady self.new.machine) }
-        ensures keeps { OnOk result (Keeps self.new.machine (⟦<MemDisk as Disk>⟧.content self.new.disk)) }
+        requires ready { (state_shown self.old.machine).ready }
+        requires keeps { (state_shown self.old.machine).rests (⟦<MemDisk as Disk>⟧.content self.old.disk) }
+        ensures ready { OnOk result ((state_shown self.new.machine).ready) }
+        ensures keeps { OnOk result ((state_shown self.new.machine).rests (⟦<MemDisk as Disk>⟧.content self.new.disk)) }
     {
         match work {
             Work::Chunk(writes) => Ok(Answer::Results(self.apply(writes.as_slice())?)),
@@ -173,8 +173,8 @@ impl Bench {
 
     // The same where the disk may be at fault.
     fn attempt(&mut self, work: &Work) -> Result<Option<Answer>, Fail>
-        requires ready { IsReady self.old.machine }
-        requires keeps { Keeps self.old.machine (⟦<MemDisk as Disk>⟧.content self.old.disk) }
+        requires ready { (state_shown self.old.machine).ready }
+        requires keeps { (state_shown self.old.machine).rests (⟦<MemDisk as Disk>⟧.content self.old.disk) }
     {
         match work {
             Work::Chunk(writes) => {
@@ -199,10 +199,10 @@ impl Bench {
 
     // Opened anew after a stop, with the answer where there was one before it.
     fn stopped(mut self, work: &Work, stop: Stop) -> Result<(Bench, Option<Answer>), Fail>
-        requires ready { IsReady self.machine }
-        requires keeps { Keeps self.machine (⟦<MemDisk as Disk>⟧.content self.disk) }
-        ensures ready { IfOk result (λ p. IsReady p.0.machine) }
-        ensures keeps { IfOk result (λ p. Keeps p.0.machine (⟦<MemDisk as Disk>⟧.content p.0.disk)) }
+        requires ready { (state_shown self.machine).ready }
+        requires keeps { (state_shown self.machine).rests (⟦<MemDisk as Disk>⟧.content self.disk) }
+        ensures ready { IfOk result (λ p. (state_shown p.0.machine).ready) }
+        ensures keeps { IfOk result (λ p. (state_shown p.0.machine).rests (⟦<MemDisk as Disk>⟧.content p.0.disk)) }
     {
         self.disk.fuse(stop.calls);
         let answer = self.attempt(work)?;
@@ -210,10 +210,10 @@ impl Bench {
     }
 
     fn turn(mut self, work: &Work, stop: Option<Stop>) -> Result<(Bench, Option<Answer>), Fail>
-        requires ready { IsReady self.machine }
-        requires keeps { Keeps self.machine (⟦<MemDisk as Disk>⟧.content self.disk) }
-        ensures ready { IfOk result (λ p. IsReady p.0.machine) }
-        ensures keeps { IfOk result (λ p. Keeps p.0.machine (⟦<MemDisk as Disk>⟧.content p.0.disk)) }
+        requires ready { (state_shown self.machine).ready }
+        requires keeps { (state_shown self.machine).rests (⟦<MemDisk as Disk>⟧.content self.disk) }
+        ensures ready { IfOk result (λ p. (state_shown p.0.machine).ready) }
+        ensures keeps { IfOk result (λ p. (state_shown p.0.machine).rests (⟦<MemDisk as Disk>⟧.content p.0.disk)) }
     {
         match stop {
             None => {
@@ -226,7 +226,12 @@ impl Bench {
 
     // Whether the same keys are due.
     fn is_due_as(&self, plain: &Plain, moment: u64) -> Result<bool, Fail> {
-        let due = self.machine.map.due_keys(self.alloc, moment)?;
+        let due = self
+            .machine
+            .journal
+            .held()
+            .map
+            .due_keys(self.alloc, moment)?;
         Ok(due == plain.due(self.alloc, moment)?)
     }
 

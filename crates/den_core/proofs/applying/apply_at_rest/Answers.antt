@@ -1,23 +1,104 @@
-use Rattle.std.proofs.Common.{◌≡◌, subst}
-use Rattle.den_disk.specs.Families.{OldOrNew}
-use Rattle.den_model.specs.declared.log_id.LogId.{LogId}
+use Rattle.std.proofs.Common.{◌≡◌, List, [], ◌∷◌, subst}
+use Rattle.std.proofs.lemmas.Result.{on_ok_weaker}
+use Rattle.den_disk.specs.declared.place.Family.TheVariants.{State}
 use Rattle.den_model.specs.MapState.{MapState, map_applied_all}
+use Rattle.den_journal.specs.Writes.{Moves}
+use Rattle.den_journal.proofs.Moving.{old_or_new}
+use Rattle.den_core.proofs.Applied.{chunk_goes_on, chunk_moves, chunk_weight, chunk_ready, chunk_rests, chunk_refused, chunk_heavy, at_rest_ok}
 use Rattle.den_core.proofs.applying.apply_at_rest.Goals as goal
 
--- a map whose mark is the stored one
-pub marked_so : (m : MapState) (mark : LogId) → mark ≡ m.mark → record m { mark = mark } ≡ m
-marked_so m mark is = λ i. record m { mark = is i }
+pub returns-clause-disk : goal.returns-clause-disk
+returns-clause-disk g c =
+    let D = g.D.Disk in
+    let M = g.M.StateMachine in
+    let s = c.args.state.now in
+    let t = c.apply_chunk.new.self in
+    let d = c.args.disk.now in
+    let e = c.apply_chunk.ensures in
+    chunk_goes_on D M.holds (M.shown s) (M.shown t) d c.apply_chunk.new.disk (M.settings s).leased (M.map s).mark.index c.args.chunk.now _ c.apply_chunk.result e.turned_away e.writes
 
-pub apply_chunk-requires-clause-keeps : goal.apply_chunk-requires-clause-keeps
-apply_chunk-requires-clause-keeps g c = λ told. (g.met.M.StateMachine.rests_keep c.args.state.now (g.D.Disk.content c.args.disk.now) (c.requires.rests told)).0
-
--- the map with the stored mark is the map
 pub returns-clause-own : goal.returns-clause-own
 returns-clause-own g c = λ told.
     let D = g.D.Disk in
     let M = g.M.StateMachine in
-    let state = c.args.state.now in
-    let disk = c.args.disk.now in
-    let is = marked_so (M.map state) (M.stored state) (g.met.M.StateMachine.rests_keep state (D.content disk) (c.requires.rests told)).1 in
-    subst (λ m. OldOrNew M.holds (D.images c.apply_chunk.new.disk) (D.moment disk) (D.moment c.apply_chunk.new.disk) m (map_applied_all (M.map state) c.args.chunk.now)) is
-    (c.apply_chunk.ensures.own told)
+    let s = c.args.state.now in
+    let t = c.apply_chunk.new.self in
+    let d = c.args.disk.now in
+    let e = c.apply_chunk.ensures in
+    let r = c.requires.rests told in
+    let moves = chunk_moves D M.holds (M.shown s) (M.shown t) d c.apply_chunk.new.disk (M.settings s).leased (M.map s).mark.index c.args.chunk.now _ c.apply_chunk.result e.turned_away e.writes told (λ files i. g.met.M.StateMachine.lies.rests_hold s (D.content d) files c.requires.ready r.rests ((g.met.D.Disk.images_now d files told).0 i)) in
+    old_or_new (subst (λ (m : MapState). Moves D State M.holds (m ∷ map_applied_all m c.args.chunk.now ∷ []) d c.apply_chunk.new.disk) r.stored moves)
+
+pub returns-clause-others : goal.returns-clause-others
+returns-clause-others g c = λ told.
+    let D = g.D.Disk in
+    let M = g.M.StateMachine in
+    let s = c.args.state.now in
+    let t = c.apply_chunk.new.self in
+    let d = c.args.disk.now in
+    let e = c.apply_chunk.ensures in
+    let r = c.requires.rests told in
+    let moves = chunk_moves D M.holds (M.shown s) (M.shown t) d c.apply_chunk.new.disk (M.settings s).leased (M.map s).mark.index c.args.chunk.now _ c.apply_chunk.result e.turned_away e.writes told (λ files i. g.met.M.StateMachine.lies.rests_hold s (D.content d) files c.requires.ready r.rests ((g.met.D.Disk.images_now d files told).0 i)) in
+    moves.others
+
+pub returns-clause-spares : goal.returns-clause-spares
+returns-clause-spares g c = λ told.
+    let D = g.D.Disk in
+    let M = g.M.StateMachine in
+    let s = c.args.state.now in
+    let t = c.apply_chunk.new.self in
+    let d = c.args.disk.now in
+    let e = c.apply_chunk.ensures in
+    let r = c.requires.rests told in
+    let moves = chunk_moves D M.holds (M.shown s) (M.shown t) d c.apply_chunk.new.disk (M.settings s).leased (M.map s).mark.index c.args.chunk.now _ c.apply_chunk.result e.turned_away e.writes told (λ files i. g.met.M.StateMachine.lies.rests_hold s (D.content d) files c.requires.ready r.rests ((g.met.D.Disk.images_now d files told).0 i)) in
+    moves.spares
+
+pub returns-clause-ready : goal.returns-clause-ready
+returns-clause-ready g c =
+    let D = g.D.Disk in
+    let M = g.M.StateMachine in
+    let s = c.args.state.now in
+    let t = c.apply_chunk.new.self in
+    let d = c.args.disk.now in
+    let e = c.apply_chunk.ensures in
+    chunk_ready D M.holds (M.shown s) (M.shown t) d c.apply_chunk.new.disk (M.settings s).leased (M.map s).mark.index c.args.chunk.now _ c.apply_chunk.result e.turned_away e.writes
+
+pub returns-clause-rests : goal.returns-clause-rests
+returns-clause-rests g c =
+    let D = g.D.Disk in
+    let M = g.M.StateMachine in
+    let s = c.args.state.now in
+    let t = c.apply_chunk.new.self in
+    let d = c.args.disk.now in
+    let e = c.apply_chunk.ensures in
+    at_rest_ok _ (M.shown t) (M.map t) (D.content c.apply_chunk.new.disk) c.apply_chunk.result (chunk_rests D M.holds (M.shown s) (M.shown t) d c.apply_chunk.new.disk (M.settings s).leased (M.map s).mark.index c.args.chunk.now _ c.apply_chunk.result e.turned_away e.writes) e.stored c.requires.some
+
+pub returns-clause-weight : goal.returns-clause-weight
+returns-clause-weight g c =
+    let D = g.D.Disk in
+    let M = g.M.StateMachine in
+    let s = c.args.state.now in
+    let t = c.apply_chunk.new.self in
+    let d = c.args.disk.now in
+    let e = c.apply_chunk.ensures in
+    chunk_weight D M.holds (M.shown s) (M.shown t) d c.apply_chunk.new.disk (M.settings s).leased (M.map s).mark.index c.args.chunk.now _ c.apply_chunk.result e.turned_away e.writes
+
+pub returns-clause-refused : goal.returns-clause-refused
+returns-clause-refused g c =
+    let D = g.D.Disk in
+    let M = g.M.StateMachine in
+    let s = c.args.state.now in
+    let t = c.apply_chunk.new.self in
+    let d = c.args.disk.now in
+    let e = c.apply_chunk.ensures in
+    chunk_refused D M.holds (M.shown s) (M.shown t) d c.apply_chunk.new.disk (M.settings s).leased (M.map s).mark.index c.args.chunk.now _ c.apply_chunk.result e.turned_away e.writes
+
+pub returns-clause-heavy : goal.returns-clause-heavy
+returns-clause-heavy g c =
+    let D = g.D.Disk in
+    let M = g.M.StateMachine in
+    let s = c.args.state.now in
+    let t = c.apply_chunk.new.self in
+    let d = c.args.disk.now in
+    let e = c.apply_chunk.ensures in
+    chunk_heavy D M.holds (M.shown s) (M.shown t) d c.apply_chunk.new.disk (M.settings s).leased (M.map s).mark.index c.args.chunk.now _ c.apply_chunk.result e.turned_away e.writes

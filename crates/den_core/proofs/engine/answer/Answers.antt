@@ -3,6 +3,7 @@ use Rattle.den_core.proofs.Spared.{gives_now, gives_old, all_give, spares_still}
 use Rattle.std.proofs.Common.{inl, refl}
 use Rattle.den_core.proofs.Refusing.{at_exit}
 use Rattle.den_core.proofs.engine.answer.Goals as goal
+use Rattle.den_state.specs.Machine.{AtRest, rest_hold}
 
 -- nothing was done
 pub returns-in_err-command-clause-moves : goal.returns-in_err-command-clause-moves
@@ -16,8 +17,8 @@ returns-in_err-command-clause-moves g c = λ told.
     (λ files rest at. g.met.G.LogStore.lies.rests_hold engine.log (D.content disk) files c.requires.ready.log rest at) rests.log)
     (gives_now _ (g.T.MetaStore.shown engine.meta).rests _ _ _ _ (λ files. g.met.D.Disk.images_now disk files told)
     (λ files rest at. g.met.T.MetaStore.lies.rests_hold engine.meta (D.content disk) files c.requires.ready.meta rest at) rests.meta)
-    (gives_now _ (g.M.StateMachine.rests engine.state) _ _ _ _ (λ files. g.met.D.Disk.images_now disk files told)
-    (λ files rest at. g.met.M.StateMachine.rests_hold engine.state (D.content disk) files c.requires.ready.state rest at) rests.state))
+    (gives_now _ (AtRest (g.M.StateMachine.shown engine.state) (g.M.StateMachine.map engine.state)) _ _ _ _ (λ files. g.met.D.Disk.images_now disk files told)
+    (λ files rest at. rest_hold g.met.M.StateMachine.lies engine.state (g.M.StateMachine.map engine.state) (D.content disk) files c.requires.ready.state rest at) rests.state))
 
 pub returns-in-Say-clause-moves : goal.returns-in-Say-clause-moves
 returns-in-Say-clause-moves g c = λ told.
@@ -30,8 +31,8 @@ returns-in-Say-clause-moves g c = λ told.
     (λ files rest at. g.met.G.LogStore.lies.rests_hold engine.log (D.content disk) files c.requires.ready.log rest at) rests.log)
     (gives_now _ (g.T.MetaStore.shown engine.meta).rests _ _ _ _ (λ files. g.met.D.Disk.images_now disk files told)
     (λ files rest at. g.met.T.MetaStore.lies.rests_hold engine.meta (D.content disk) files c.requires.ready.meta rest at) rests.meta)
-    (gives_now _ (g.M.StateMachine.rests engine.state) _ _ _ _ (λ files. g.met.D.Disk.images_now disk files told)
-    (λ files rest at. g.met.M.StateMachine.rests_hold engine.state (D.content disk) files c.requires.ready.state rest at) rests.state))
+    (gives_now _ (AtRest (g.M.StateMachine.shown engine.state) (g.M.StateMachine.map engine.state)) _ _ _ _ (λ files. g.met.D.Disk.images_now disk files told)
+    (λ files rest at. rest_hold g.met.M.StateMachine.lies engine.state (g.M.StateMachine.map engine.state) (D.content disk) files c.requires.ready.state rest at) rests.state))
 
 pub returns-in_err-command-clause-snapshot : goal.returns-in_err-command-clause-snapshot
 returns-in_err-command-clause-snapshot g c = λ told. spares_still _ _ _ _ _

@@ -14,6 +14,7 @@ use Rattle.den_core.proofs.Weighing.{entry_is, heavier_out}
 use Rattle.den_core.proofs.Refusing.{at_exit, fails_or_stays, untouched_only}
 use Rattle.den_core.specs.Parts.{IsCaughtUp}
 use Rattle.den_core.proofs.engine.commit.Goals as goal
+use Rattle.den_state.specs.Machine.{AtRest, rest_hold, rest_own}
 
 -- the entry joined the log, or did not
 pub returns-in_err-persist_entries-clause-moves : goal.returns-in_err-persist_entries-clause-moves
@@ -34,9 +35,9 @@ returns-in_err-persist_entries-clause-moves g c = λ told.
     (spared _ _ _ _ _ _ _ _ meta_log g.met.T.MetaStore.lies.holds_own
     (gives_now _ (g.T.MetaStore.shown engine.meta).rests _ _ _ _ (λ files. g.met.D.Disk.images_now disk files told)
     (λ files rest at. g.met.T.MetaStore.lies.rests_hold engine.meta (D.content disk) files c.requires.ready.meta rest at) (c.requires.rests told).meta) ((persist.writes.moves told).others))
-    (spared _ _ _ _ _ _ _ _ state_log g.met.M.StateMachine.holds_own
-    (gives_now _ (g.M.StateMachine.rests engine.state) _ _ _ _ (λ files. g.met.D.Disk.images_now disk files told)
-    (λ files rest at. g.met.M.StateMachine.rests_hold engine.state (D.content disk) files c.requires.ready.state rest at) (c.requires.rests told).state) ((persist.writes.moves told).others)))
+    (spared _ _ _ _ _ _ _ _ state_log g.met.M.StateMachine.lies.holds_own
+    (gives_now _ (AtRest (g.M.StateMachine.shown engine.state) (g.M.StateMachine.map engine.state)) _ _ _ _ (λ files. g.met.D.Disk.images_now disk files told)
+    (λ files rest at. rest_hold g.met.M.StateMachine.lies engine.state (g.M.StateMachine.map engine.state) (D.content disk) files c.requires.ready.state rest at) (c.requires.rests told).state) ((persist.writes.moves told).others)))
 
 -- the map's files lie as before behind the append
 pub apply_at_rest-requires-clause-rests : goal.apply_at_rest-requires-clause-rests
@@ -44,7 +45,7 @@ apply_at_rest-requires-clause-rests g c = λ then.
     let persist = c.in_ok-persist_entries.ensures in
     let told : IsTrue (g.D.Disk.kind c.args.disk.now).tells = subst (λ k. IsTrue k.tells) persist.writes.goes_on.same then in
     let engine = c.args.engine.now in
-    g.met.M.StateMachine.rests_own engine.state _ _ (apart_own _ _ _ _ state_log ((persist.writes.moves told).spares)) (c.requires.rests told).state
+    rest_own g.met.M.StateMachine.lies engine.state (g.M.StateMachine.map engine.state) _ _ (apart_own _ _ _ _ state_log ((persist.writes.moves told).spares)) (c.requires.rests told).state
 
 pub returns-in_err-results-clause-moves : goal.returns-in_err-results-clause-moves
 returns-in_err-results-clause-moves g c = λ told.
@@ -70,9 +71,9 @@ returns-in_err-results-clause-moves g c = λ told.
     (spared _ _ _ _ _ _ _ _ meta_log g.met.T.MetaStore.lies.holds_own
     (gives_now _ (g.T.MetaStore.shown engine.meta).rests _ _ _ _ (λ files. g.met.D.Disk.images_now disk files told)
     (λ files rest at. g.met.T.MetaStore.lies.rests_hold engine.meta (D.content disk) files c.requires.ready.meta rest at) (c.requires.rests told).meta) ((persist.writes.moves told).others))
-    (spared _ _ _ _ _ _ _ _ state_log g.met.M.StateMachine.holds_own
-    (gives_now _ (g.M.StateMachine.rests engine.state) _ _ _ _ (λ files. g.met.D.Disk.images_now disk files told)
-    (λ files rest at. g.met.M.StateMachine.rests_hold engine.state (D.content disk) files c.requires.ready.state rest at) (c.requires.rests told).state) ((persist.writes.moves told).others)))
+    (spared _ _ _ _ _ _ _ _ state_log g.met.M.StateMachine.lies.holds_own
+    (gives_now _ (AtRest (g.M.StateMachine.shown engine.state) (g.M.StateMachine.map engine.state)) _ _ _ _ (λ files. g.met.D.Disk.images_now disk files told)
+    (λ files rest at. rest_hold g.met.M.StateMachine.lies engine.state (g.M.StateMachine.map engine.state) (D.content disk) files c.requires.ready.state rest at) (c.requires.rests told).state) ((persist.writes.moves told).others)))
     (state_moves g.G.LogStore.holds g.T.MetaStore.holds g.M.StateMachine.holds _ _ _ _ _ _ _ _ _
     (logged_is l s c.of.result caught next h) (applied_again l h s c.of.result caught next)
     (spared _ _ _ _ _ _ _ _ log_state g.met.G.LogStore.lies.holds_own
@@ -107,9 +108,9 @@ returns-clause-moves g c = λ told.
     (spared _ _ _ _ _ _ _ _ meta_log g.met.T.MetaStore.lies.holds_own
     (gives_now _ (g.T.MetaStore.shown engine.meta).rests _ _ _ _ (λ files. g.met.D.Disk.images_now disk files told)
     (λ files rest at. g.met.T.MetaStore.lies.rests_hold engine.meta (D.content disk) files c.requires.ready.meta rest at) (c.requires.rests told).meta) ((persist.writes.moves told).others))
-    (spared _ _ _ _ _ _ _ _ state_log g.met.M.StateMachine.holds_own
-    (gives_now _ (g.M.StateMachine.rests engine.state) _ _ _ _ (λ files. g.met.D.Disk.images_now disk files told)
-    (λ files rest at. g.met.M.StateMachine.rests_hold engine.state (D.content disk) files c.requires.ready.state rest at) (c.requires.rests told).state) ((persist.writes.moves told).others)))
+    (spared _ _ _ _ _ _ _ _ state_log g.met.M.StateMachine.lies.holds_own
+    (gives_now _ (AtRest (g.M.StateMachine.shown engine.state) (g.M.StateMachine.map engine.state)) _ _ _ _ (λ files. g.met.D.Disk.images_now disk files told)
+    (λ files rest at. rest_hold g.met.M.StateMachine.lies engine.state (g.M.StateMachine.map engine.state) (D.content disk) files c.requires.ready.state rest at) (c.requires.rests told).state) ((persist.writes.moves told).others)))
     (state_moves g.G.LogStore.holds g.T.MetaStore.holds g.M.StateMachine.holds _ _ _ _ _ _ _ _ _
     (logged_is l s c.of.result caught next h) (applied_again l h s c.of.result caught next)
     (spared _ _ _ _ _ _ _ _ log_state g.met.G.LogStore.lies.holds_own
@@ -196,7 +197,7 @@ returns-in_err-persist_entries-clause-left g c =
     record {
       same_kv = refl;
       same_log = same.same_value;
-      same_weight = ap (λ n. n + (g.T.MetaStore.shown engine.meta).weight + g.M.StateMachine.weight engine.state) same.same_weight;
+      same_weight = ap (λ n. n + (g.T.MetaStore.shown engine.meta).weight + (g.M.StateMachine.shown engine.state).weight) same.same_weight;
       same_disk = same.same_disk;
       stays_ready = λ ready. (
         ready.0,
@@ -211,7 +212,7 @@ returns-in_err-persist_entries-clause-left g c =
       stays_at_rest = λ told rests. record {
         log = same.rests told;
         meta = subst (λ d. (g.T.MetaStore.shown engine.meta).rests (D.content d)) (sym same.same_disk) rests.meta;
-        state = subst (λ d. g.M.StateMachine.rests engine.state (D.content d)) (sym same.same_disk) rests.state;
+        state = subst (λ d. AtRest (g.M.StateMachine.shown engine.state) (g.M.StateMachine.map engine.state) (D.content d)) (sym same.same_disk) rests.state;
       };
     })
     (λ disk. inr (inl (refused.failed disk))))

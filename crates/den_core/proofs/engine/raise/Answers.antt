@@ -8,6 +8,7 @@ use Rattle.den_core.proofs.Weighing.{hard_state_length, heavier}
 use Rattle.den_core.specs.Parts.{kv_of}
 use Rattle.den_core.proofs.Refusing.{fails_or_stays, if_err_weaker, untouched_only}
 use Rattle.den_core.proofs.engine.raise.Goals as goal
+use Rattle.den_state.specs.Machine.{AtRest, rest_hold, rest_own}
 
 -- the hard state was saved, or was not
 pub returns-clause-moves : goal.returns-clause-moves
@@ -23,9 +24,9 @@ returns-clause-moves g c = λ told.
     (gives_now _ (g.G.LogStore.shown engine.log).rests _ _ _ _ (λ files. g.met.D.Disk.images_now disk files told)
     (λ files rest at. g.met.G.LogStore.lies.rests_hold engine.log (D.content disk) files c.requires.ready.log rest at) (c.requires.rests told).log) ((save.writes.moves told).others))
     (old_or_new (save.writes.moves told))
-    (spared _ _ _ _ _ _ _ _ state_meta g.met.M.StateMachine.holds_own
-    (gives_now _ (g.M.StateMachine.rests engine.state) _ _ _ _ (λ files. g.met.D.Disk.images_now disk files told)
-    (λ files rest at. g.met.M.StateMachine.rests_hold engine.state (D.content disk) files c.requires.ready.state rest at) (c.requires.rests told).state) ((save.writes.moves told).others))
+    (spared _ _ _ _ _ _ _ _ state_meta g.met.M.StateMachine.lies.holds_own
+    (gives_now _ (AtRest (g.M.StateMachine.shown engine.state) (g.M.StateMachine.map engine.state)) _ _ _ _ (λ files. g.met.D.Disk.images_now disk files told)
+    (λ files rest at. rest_hold g.met.M.StateMachine.lies engine.state (g.M.StateMachine.map engine.state) (D.content disk) files c.requires.ready.state rest at) (c.requires.rests told).state) ((save.writes.moves told).others))
 
 pub returns-clause-rests : goal.returns-clause-rests
 returns-clause-rests g c = on_ok_weaker c.save_hard_state.result (λ done told.
@@ -34,7 +35,7 @@ returns-clause-rests g c = on_ok_weaker c.save_hard_state.result (λ done told.
     record {
       log = g.met.G.LogStore.lies.rests_own engine.log _ _ (apart_own _ _ _ _ log_meta ((save.writes.moves told).spares)) (c.requires.rests told).log;
       meta = done.rests told;
-      state = g.met.M.StateMachine.rests_own engine.state _ _ (apart_own _ _ _ _ state_meta ((save.writes.moves told).spares)) (c.requires.rests told).state;
+      state = rest_own g.met.M.StateMachine.lies engine.state (g.M.StateMachine.map engine.state) _ _ (apart_own _ _ _ _ state_meta ((save.writes.moves told).spares)) (c.requires.rests told).state;
     }) c.save_hard_state.ensures.writes.done
 
 -- it is handed the new hard state
@@ -58,13 +59,13 @@ returns-clause-left g c = if_err_weaker c.save_hard_state.result _ _
     record {
       same_kv = ap (λ h. kv_of h (g.M.StateMachine.map engine.state) engine.running) same.same_value;
       same_log = refl;
-      same_weight = ap (λ n. (g.G.LogStore.shown engine.log).weight + n + g.M.StateMachine.weight engine.state) same.same_weight;
+      same_weight = ap (λ n. (g.G.LogStore.shown engine.log).weight + n + (g.M.StateMachine.shown engine.state).weight) same.same_weight;
       same_disk = same.same_disk;
       stays_ready = λ ready. (ready.0, record { log = ready.1.log; meta = same.ready; state = ready.1.state; caught_up = ready.1.caught_up; plain = ready.1.plain });
       stays_at_rest = λ told rests. record {
         log = subst (λ d. (g.G.LogStore.shown engine.log).rests (D.content d)) (sym same.same_disk) rests.log;
         meta = same.rests told;
-        state = subst (λ d. g.M.StateMachine.rests engine.state (D.content d)) (sym same.same_disk) rests.state;
+        state = subst (λ d. AtRest (g.M.StateMachine.shown engine.state) (g.M.StateMachine.map engine.state) (D.content d)) (sym same.same_disk) rests.state;
       };
     })
     (λ disk. inr (inr (inl (refused.failed disk)))))

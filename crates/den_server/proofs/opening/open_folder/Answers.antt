@@ -20,6 +20,7 @@ use Rattle.den_server.proofs.Surviving.{opening_then}
 use Rattle.den_disk.specs.declared.place.Family.TheVariants.{Snapshot as snapshot_family}
 use Rattle.den_core.proofs.Spared.{spares_still, spares_twice}
 use Rattle.den_server.proofs.opening.open_folder.Goals as goal
+use Rattle.den_state.specs.FileState.{state_map}
 
 -- ---- what a crash leaves
 
@@ -74,10 +75,10 @@ pub returns-clause-weight : goal.returns-clause-weight
 returns-clause-weight g c = if_ok_weaker c.recover.result _ _
     (λ engine weight told.
     let stores = c.in-Ok-open_stores.stores in
-    let more = entries_size (above stores.state.map.mark.index (log_shown stores.log).value.entries) in
+    let more = entries_size (above (state_map stores.state).mark.index (log_shown stores.log).value.entries) in
     let got : held_weight engine.log engine.meta engine.state ≤ held_weight stores.log stores.meta stores.state + store_rise more = weight in
     let most = lighter (held_weight stores.log stores.meta stores.state) (entries_size (log_shown stores.log).value.entries) more (files_size (g.D.Disk.content c.args.disk.now).reading)
-    (c.in-Ok-open_stores.ensures.weight told) (c.in-Ok-open_stores.ensures.entries told) (above_size stores.state.map.mark.index (log_shown stores.log).value.entries) in
+    (c.in-Ok-open_stores.ensures.weight told) (c.in-Ok-open_stores.ensures.entries told) (above_size (state_map stores.state).mark.index (log_shown stores.log).value.entries) in
     le_trans got most)
     c.recover.ensures.weight
 
@@ -85,10 +86,10 @@ pub returns-clause-heavy : goal.returns-clause-heavy
 returns-clause-heavy g c = λ told. if_err_weaker c.recover.result _ _
     (λ e heavy.
     let stores = c.in-Ok-open_stores.stores in
-    let more = entries_size (above stores.state.map.mark.index (log_shown stores.log).value.entries) in
+    let more = entries_size (above (state_map stores.state).mark.index (log_shown stores.log).value.entries) in
     heavier (g.D.Disk.kind c.args.disk.now).limit (held_weight stores.log stores.meta stores.state + store_rise more) _ e
     (lighter (held_weight stores.log stores.meta stores.state) (entries_size (log_shown stores.log).value.entries) more (files_size (g.D.Disk.content c.args.disk.now).reading)
-    (c.in-Ok-open_stores.ensures.weight told) (c.in-Ok-open_stores.ensures.entries told) (above_size stores.state.map.mark.index (log_shown stores.log).value.entries))
+    (c.in-Ok-open_stores.ensures.weight told) (c.in-Ok-open_stores.ensures.entries told) (above_size (state_map stores.state).mark.index (log_shown stores.log).value.entries))
     (subst (λ (k : Kind). IsHeavy k.limit (held_weight stores.log stores.meta stores.state + store_rise more) e) c.open_stores.ensures.disk.same heavy))
     c.recover.ensures.heavy
 
@@ -119,8 +120,8 @@ returns-clause-refused g c = if_err_weaker c.recover.result _ _
     let D = g.D.Disk in
     let stores = c.in-Ok-open_stores.stores in
     let rose = Rose (D.faults c.open_stores.new.disk) (D.faults c.recover.new.disk) in
-    let refusal = opening_refusal (file_place stores.log) (log_shown stores.log).value (meta_shown stores.meta).value stores.state.map in
-    failure_refused rose _ _ _ (file_place stores.log) (refusal_in (D.content c.args.disk.now).reading) (log_shown stores.log).value (meta_shown stores.meta).value stores.state.map e
+    let refusal = opening_refusal (file_place stores.log) (log_shown stores.log).value (meta_shown stores.meta).value (state_map stores.state) in
+    failure_refused rose _ _ _ (file_place stores.log) (refusal_in (D.content c.args.disk.now).reading) (log_shown stores.log).value (meta_shown stores.meta).value (state_map stores.state) e
     (λ r. rose_then _ _ _ c.open_stores.ensures.disk.counts r)
     (λ told. read_refusal (D.content c.args.disk.now).reading _ _ _ _ (c.in-Ok-open_stores.ensures.read told) (c.in-Ok-open_stores.ensures.place told))
     (subst (λ (k : Kind). IsOpeningFailure rose k.limit refusal e) c.open_stores.ensures.disk.same failure))
@@ -132,7 +133,7 @@ returns-clause-untouched g c = λ e told is.
     let first = c.args.disk.now in
     let mid = c.open_stores.new.disk in
     let stores = c.in-Ok-open_stores.stores in
-    let some = some_refused (refusal_in (D.content first).reading) (opening_refusal (file_place stores.log) (log_shown stores.log).value (meta_shown stores.meta).value stores.state.map) e
+    let some = some_refused (refusal_in (D.content first).reading) (opening_refusal (file_place stores.log) (log_shown stores.log).value (meta_shown stores.meta).value (state_map stores.state)) e
     (read_refusal (D.content first).reading _ _ _ _ (c.in-Ok-open_stores.ensures.read told) (c.in-Ok-open_stores.ensures.place told)) is in
     subst (λ d. IsUnwritten (D.content first) (D.content d) (NoNewImages (D.images first) (D.images d) (D.moment first) (D.moment d))) (sym (c.recover.ensures.untouched some))
     (record { content = c.open_stores.ensures.spares told; images = c.open_stores.ensures.images told })

@@ -1,64 +1,101 @@
-use Rattle.std.proofs.Common.{◌≡◌, inr, ◌+◌, ◌-◌, ◌^◌, min, length, ap, sym, subst, ◌∙◌}
-use Rattle.std.proofs.lemmas.Result.{err_from_is_err_and}
+use Rattle.std.proofs.Common.{◌≡◌, ◌≤◌, ◌+◌, ℕ, List, [], ◌∷◌, ◌++◌, length, Some, None, Ok, Err, refl, sym, ap, subst, ◌∙◌, arith}
 use Rattle.den_disk.specs.declared.place.Family.TheVariants.{State}
-use Rattle.den_model.specs.MapState.{map_applied_all, map_after_payload}
-use Rattle.den_model.specs.Reading.{state_region_in}
-use Rattle.den_model.specs.Sizes.{entries_size}
-use Rattle.den_gate.specs.declared.gate.GateFile.{GateFile}
+use Rattle.den_model.specs.declared.journal.JournalRecord.{JournalRecord}
+use Rattle.den_model.specs.declared.log_id.LogId.{LogId}
+use Rattle.den_model.specs.declared.region.StateRegion.TheVariants.{Records}
+use Rattle.den_model.specs.Entries.{LogEntry}
+use Rattle.den_model.specs.MapState.{MapState, map_after, map_after_records, map_applied_all, results_of}
+use Rattle.den_model.specs.Sizes.{entries_size, store_rise}
+use Rattle.den_model.specs.Spelling.{state_region_word}
+use Rattle.den_disk.specs.declared.place.Place.{Place}
 use Rattle.den_gate.specs.Gate.{payloads}
-use Rattle.den_state.specs.declared.file_machine.FileStateMachine.{FileStateMachine}
-use Rattle.den_state.specs.Machine.{GivesMap, stored_map}
-use Rattle.den_state.proofs.Resting.{held_still, images_still, memory_gives}
-use Rattle.den_state.proofs.Tails.{tail_appended, chunk_counts}
-use Rattle.den_state.proofs.Weighing.{weight_appended, light_payload}
+use Rattle.den_gate.specs.Slot.{payloads_of}
+use Rattle.den_map.specs.Journal.{all_recorded}
+use Rattle.den_map.specs.Order.{out_of_order}
+use Rattle.den_journal.specs.Shown.{held_in}
+use Rattle.den_journal.proofs.Moving.{writes_refused}
+use Rattle.den_journal.proofs.Seen.{writes_part, refused_ready}
+use Rattle.den_state.specs.declared.stored_map.StoredMap.{StoredMap}
+use Rattle.den_state.specs.FileState.{map_held, state_lies, stored_of}
+use Rattle.den_state.specs.Folds.{held_map}
+use Rattle.den_state.specs.Stored.{Stored, map_by, nothing_stored, stored_from}
+use Rattle.den_state.proofs.Marks.{applied_at, lawful_by, order_lower, records_after, results_at}
+use Rattle.den_state.proofs.Weighing.{light_chunk}
 use Rattle.den_state.proofs.file_machine.FileStateMachine.commit.Goals as goal
 
-pub returns-in_err-journaled-clause-own : goal.returns-in_err-journaled-clause-own
-returns-in_err-journaled-clause-own g c = λ tells.
-    held_still g.D.Disk.kind g.D.Disk.content g.D.Disk.moment g.D.Disk.images g.D.Disk.faults c.args.disk.now c.args.self.now.gate (stored_map c.args.self.now) _ (λ files. g.met.D.Disk.images_now c.args.disk.now files tells) (c.requires.keeps tells).files
+-- what the records of entries give of the map that they were made over
+after_records : (m over : MapState) (chunk : List LogEntry) (rs js : List JournalRecord) → over ≡ m → rs ≡ js → map_after_records over js ≡ Some (map_applied_all over chunk) → map_after m (Records rs) ≡ Some (map_applied_all m chunk)
+after_records m over chunk rs js same is lawful =
+    records_after m rs ∙ ap (map_after_records m) is ∙ subst (λ (x : MapState). map_after_records x js ≡ Some (map_applied_all x chunk)) same lawful
 
-pub returns-in_err-journaled-clause-others : goal.returns-in_err-journaled-clause-others
-returns-in_err-journaled-clause-others g c = λ tells. images_still g.D.Disk.kind g.D.Disk.content g.D.Disk.moment g.D.Disk.images g.D.Disk.faults c.args.disk.now State
+light_records : (m over : MapState) (chunk : List LogEntry) (rs js : List JournalRecord) → over ≡ m → rs ≡ js → js ≡ all_recorded over chunk
+    → (length (state_region_word (Records rs)) ≡ length (state_region_word (Records (all_recorded m chunk)))) × (9 + length (state_region_word (Records rs)) ≤ store_rise (entries_size chunk))
+light_records m over chunk rs js same is records =
+    let all : rs ≡ all_recorded m chunk = is ∙ records ∙ ap (λ (x : MapState). all_recorded x chunk) same in
+    let size : length (state_region_word (Records rs)) ≡ length (state_region_word (Records (all_recorded m chunk))) = ap (λ (x : List JournalRecord). length (state_region_word (Records x))) all in
+    (size, omega (arith, light_chunk m chunk, size))
 
-pub returns-in_err-append-clause-heavy : goal.returns-in_err-append-clause-heavy
-returns-in_err-append-clause-heavy g c =
-    let p = err_from_is_err_and c.from_residual-in_err-append.result c.from_residual-in_err-append.ensures.1 in
-    let light = light_payload c.args.self.now.map c.args.chunk.now c.deref.result.now (c.deref.ensures.value ∙ c.in_ok-journaled.ensures.payload) in
-    rw (p.1, p.2) (c.in_err-append.ensures.heavy (entries_size c.args.chunk.now) light)
-
-pub returns-clause-weight : goal.returns-clause-weight
-returns-clause-weight g c =
-    weight_appended c.args.self.now.map c.args.chunk.now c.deref.result.now c.args.self.now.gate.end _ (c.deref.ensures.value ∙ c.in_ok-journaled.ensures.payload)
-    (ap (λ (gate : GateFile). gate.end) c.take_on.ensures.gate ∙ c.in_ok-append.ensures.end)
-
-pub returns-clause-rests : goal.returns-clause-rests
-returns-clause-rests g c = λ tells.
+pub journal-requires : goal.journal-requires
+journal-requires g c =
     let s = c.args.self.now in
-    let k = c.requires.keeps tells in
-    let content = g.D.Disk.content c.append.new.disk in
-    let kept : c.append.new.self.map ≡ s.map = ap (λ (m : FileStateMachine). m.map) c.append.ensures.rest in
-    let map : c.take_on.new.self.map ≡ map_applied_all s.map c.args.chunk.now = c.in_ok-take_on.ensures.map ∙ ap (λ m. map_applied_all m c.args.chunk.now) kept in
-    let tail : c.take_on.new.self.tail ≡ min (s.tail + length c.args.chunk.now) (2 ^ 64 - 1) = c.in_ok-take_on.ensures.tail ∙ ap (λ (m : FileStateMachine). min (m.tail + length c.args.chunk.now) (2 ^ 64 - 1)) c.append.ensures.rest in
-    let word = c.deref.ensures.value in
-    let after = ap (map_after_payload (stored_map s)) word ∙ c.in_ok-journaled.ensures.means s.stored k.below c.requires.some in
-    let files = c.in_ok-append.ensures.gives tells (stored_map s) (map_applied_all s.map c.args.chunk.now) k.files after in
-    record {
-      files = subst (λ (gate : GateFile). GivesMap gate c.take_on.new.self.map content) (sym c.take_on.ensures.gate) (subst (λ m. GivesMap c.append.new.self.gate m content) (sym map) files);
-      stored = c.in_ok-take_on.ensures.stored;
-      tail = tail_appended (payloads s.gate (g.D.Disk.content c.args.disk.now).reading) _ c.deref.result.now s.tail _
-          (ap (λ (gate : GateFile). payloads gate content.reading) c.take_on.ensures.gate ∙ c.in_ok-append.ensures.appended tells) k.tail
-          (chunk_counts s.map c.args.chunk.now s.tail _ c.deref.result.now (ap state_region_in word ∙ c.in_ok-journaled.ensures.reads) tail);
-    }
+    subst (λ (h : StoredMap). out_of_order h.map.mark.index c.args.chunk.now ≡ None) (sym c.held.ensures) (order_lower s.journal.held.map.mark.index s.applied.index c.args.chunk.now s.below c.requires.in_order)
 
--- the files hold the chunk, which the map could not take on
-pub returns-in_err-take_on-clause-out_of_memory : goal.returns-in_err-take_on-clause-out_of_memory
-returns-in_err-take_on-clause-out_of_memory g c =
+pub change-requires-clause-stands : goal.change-requires-clause-stands
+change-requires-clause-stands g c = record { ready = c.requires.stands.ready; rests = c.requires.stands.rests }
+
+pub change-requires-clause-lawful : goal.change-requires-clause-lawful
+change-requires-clause-lawful g c =
     let s = c.args.self.now in
-    memory_gives c.from_residual-in_err-take_on.result _ (inr (
-      c.in_err-take_on.ensures.failed,
-      λ tells.
-          let k = c.requires.keeps tells in
-          let after = ap (map_after_payload (stored_map s)) c.deref.ensures.value ∙ c.in_ok-journaled.ensures.means s.stored k.below c.requires.some in
-          subst (λ (gate : GateFile). GivesMap gate (map_applied_all s.map c.args.chunk.now) (g.D.Disk.content c.append.new.disk)) (sym c.take_on.ensures.gate)
-          (c.in_ok-append.ensures.gives tells (stored_map s) (map_applied_all s.map c.args.chunk.now) k.files after),
-    ))
+    lawful_by (stored_of s) (Records c.of-records.result) _
+    (after_records s.journal.held.map c.held.result.now.map c.args.chunk.now c.of-records.result _ (ap (λ (h : StoredMap). h.map) c.held.ensures) c.of-records.ensures c.in_ok-journaled.ensures.lawful)
+
+pub returns-in_err-journaled-clause-writes : goal.returns-in_err-journaled-clause-writes
+returns-in_err-journaled-clause-writes g c =
+    let s = c.requires.stands in
+    let d = c.args.disk.now in
+    writes_refused g.D.Disk State map_held _ _ _ d s.ready s.rests
+    (λ tells files i. state_lies.rests_hold c.args.self.now (g.D.Disk.content d) files s.ready (s.rests tells) ((g.met.D.Disk.images_now d files tells).0 i))
+    c.from_residual.result c.from_residual.ensures.1 refl refl
+
+pub returns-in-Ok-clause-writes : goal.returns-in-Ok-clause-writes
+returns-in-Ok-clause-writes g c =
+    let s = c.args.self.now in
+    let m = s.journal.held.map in
+    let over = ap (λ (h : StoredMap). h.map) c.held.ensures in
+    let after = after_records m c.held.result.now.map c.args.chunk.now c.of-records.result _ over c.of-records.ensures c.in_ok-journaled.ensures.lawful in
+    let light = light_records m c.held.result.now.map c.args.chunk.now c.of-records.result _ over c.of-records.ensures c.in_ok-journaled.ensures.records in
+    writes_part g.D.Disk State (held_in State (stored_from nothing_stored)) map_held (λ (v : Stored). v.map) _ _ _ _ _ _ held_map (ap (map_by m) after) light.0 light.1 (λ _. tt) (Ok _) (Ok _) tt c.in-Ok.ensures.writes
+
+pub returns-in-Err-clause-writes : goal.returns-in-Err-clause-writes
+returns-in-Err-clause-writes g c =
+    let s = c.args.self.now in
+    let m = s.journal.held.map in
+    let over = ap (λ (h : StoredMap). h.map) c.held.ensures in
+    let after = after_records m c.held.result.now.map c.args.chunk.now c.of-records.result _ over c.of-records.ensures c.in_ok-journaled.ensures.lawful in
+    let light = light_records m c.held.result.now.map c.args.chunk.now c.of-records.result _ over c.of-records.ensures c.in_ok-journaled.ensures.records in
+    writes_part g.D.Disk State (held_in State (stored_from nothing_stored)) map_held (λ (v : Stored). v.map) _ _ _ _ _ _ held_map (ap (map_by m) after) light.0 light.1 (λ _. tt) (Err _) (Err _) refl c.in-Err.ensures.writes
+
+pub returns-in-Ok-clause-applied : goal.returns-in-Ok-clause-applied
+returns-in-Ok-clause-applied g c =
+    let s = c.args.self.now in
+    let m = s.journal.held.map in
+    let n = c.change.new.self.held.map in
+    let over = ap (λ (h : StoredMap). h.map) c.held.ensures in
+    let after = after_records m c.held.result.now.map c.args.chunk.now c.of-records.result _ over c.of-records.ensures c.in_ok-journaled.ensures.lawful in
+    let value : n ≡ map_applied_all m c.args.chunk.now = ap (λ (v : Stored). v.map) c.in-Ok.ensures.writes.done.value ∙ ap (map_by m) after in
+    let at : c.mark-self.result ≡ n.mark = c.mark-self.ensures ∙ ap (λ (h : StoredMap). h.map.mark) c.held-in-Ok.ensures in
+    let whole : record n { mark = c.mark-self.result } ≡ n = λ i. record n { mark = at i } in
+    whole ∙ value ∙ sym (applied_at m s.applied c.args.chunk.now c.requires.some)
+
+pub returns-in-Ok-clause-results : goal.returns-in-Ok-clause-results
+returns-in-Ok-clause-results g c =
+    let s = c.args.self.now in
+    c.of.ensures ∙ c.in_ok-journaled.ensures.results ∙ ap (λ (h : StoredMap). results_of h.map c.args.chunk.now) c.held.ensures ∙ sym (results_at s.journal.held.map s.applied c.args.chunk.now)
+
+pub returns-in-Ok-clause-region : goal.returns-in-Ok-clause-region
+returns-in-Ok-clause-region g c = λ tells.
+    let s = c.args.self.now in
+    let list = payloads s.journal.gate (g.D.Disk.content c.args.disk.now).reading in
+    let all : c.of-records.result ≡ all_recorded s.journal.held.map c.args.chunk.now =
+    c.of-records.ensures ∙ c.in_ok-journaled.ensures.records ∙ ap (λ (h : StoredMap). all_recorded h.map c.args.chunk.now) c.held.ensures in
+    sym (ap (λ (p : Place). payloads_of ((g.D.Disk.content c.change.new.disk).reading p)) c.change.ensures.slot) ∙ c.in-Ok.ensures.appended tells ∙ ap (λ (rs : List JournalRecord). list ++ state_region_word (Records rs) ∷ []) all

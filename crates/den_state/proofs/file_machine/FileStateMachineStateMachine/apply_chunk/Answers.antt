@@ -1,25 +1,21 @@
+use Rattle.std.proofs.Common.{◌≡◌, ◌≤◌, true, List, [], ◌∷◌, length, refl, sym, ◌∙◌, arith}
+use Rattle.std.specs.Prelude.{◌==◌}
+use Rattle.std.proofs.lemmas.Bool.{eqb-true}
 use Rattle.den_disk.specs.declared.place.Family.TheVariants.{State}
-use Rattle.den_state.specs.Machine.{stored_map}
-use Rattle.den_state.proofs.Resting.{held_still, images_still}
+use Rattle.den_model.specs.Entries.{LogEntry}
+use Rattle.den_model.specs.MapState.{MapState, map_applied_all}
+use Rattle.den_journal.proofs.Moving.{writes_nothing}
+use Rattle.den_state.specs.FileState.{map_held, state_lies}
 use Rattle.den_state.proofs.file_machine.FileStateMachineStateMachine.apply_chunk.Goals as goal
 
-pub returns-in-Some-clause-own : goal.returns-in-Some-clause-own
-returns-in-Some-clause-own g c = λ tells.
-    held_still g.D.Disk.kind g.D.Disk.content g.D.Disk.moment g.D.Disk.images g.D.Disk.faults c.args.disk.now c.args.self.now.gate (stored_map c.args.self.now) _ (λ files. g.met.D.Disk.images_now c.args.disk.now files tells) (c.requires.keeps tells).files
+none_applied : (m : MapState) (es : List LogEntry) → (length es == 0) ≡ true → m ≡ map_applied_all m es
+none_applied m [] none = refl
+none_applied m (e ∷ es) none = absurd (omega (arith, eqb-true (length (e ∷ es)) 0 none))
 
-pub returns-in-Some-clause-others : goal.returns-in-Some-clause-others
-returns-in-Some-clause-others g c = λ tells. images_still g.D.Disk.kind g.D.Disk.content g.D.Disk.moment g.D.Disk.images g.D.Disk.faults c.args.disk.now State
-
-pub returns-then-asks_lease-clause-own : goal.returns-then-asks_lease-clause-own
-returns-then-asks_lease-clause-own g c = λ tells.
-    held_still g.D.Disk.kind g.D.Disk.content g.D.Disk.moment g.D.Disk.images g.D.Disk.faults c.args.disk.now c.args.self.now.gate (stored_map c.args.self.now) _ (λ files. g.met.D.Disk.images_now c.args.disk.now files tells) (c.requires.keeps tells).files
-
-pub returns-then-asks_lease-clause-others : goal.returns-then-asks_lease-clause-others
-returns-then-asks_lease-clause-others g c = λ tells. images_still g.D.Disk.kind g.D.Disk.content g.D.Disk.moment g.D.Disk.images g.D.Disk.faults c.args.disk.now State
-
-pub returns-then-is_empty-clause-own : goal.returns-then-is_empty-clause-own
-returns-then-is_empty-clause-own g c = λ tells.
-    held_still g.D.Disk.kind g.D.Disk.content g.D.Disk.moment g.D.Disk.images g.D.Disk.faults c.args.disk.now c.args.self.now.gate (stored_map c.args.self.now) _ (λ files. g.met.D.Disk.images_now c.args.disk.now files tells) (c.requires.keeps tells).files
-
-pub returns-then-is_empty-clause-others : goal.returns-then-is_empty-clause-others
-returns-then-is_empty-clause-others g c = λ tells. images_still g.D.Disk.kind g.D.Disk.content g.D.Disk.moment g.D.Disk.images g.D.Disk.faults c.args.disk.now State
+pub returns-then-is_empty-clause-writes : goal.returns-then-is_empty-clause-writes
+returns-then-is_empty-clause-writes g c = λ none.
+    let s = c.requires.stands in
+    let d = c.args.disk.now in
+    writes_nothing g.D.Disk State map_held _ _ _ d s.ready s.rests
+    (λ tells files i. state_lies.rests_hold c.args.self.now (g.D.Disk.content d) files s.ready (s.rests tells) ((g.met.D.Disk.images_now d files tells).0 i))
+    _ (none_applied c.args.self.now.journal.held.map c.args.chunk.now (sym c.is_empty.ensures ∙ c.if-is_empty.true)) (omega arith)

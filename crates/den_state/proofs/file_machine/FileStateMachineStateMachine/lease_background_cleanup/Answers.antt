@@ -1,86 +1,149 @@
-use Rattle.std.proofs.Common.{◌≡◌, ◌+◌, ◌-◌, ◌^◌, min, max, false, ap, sym, subst, ◌∙◌, arith}
+use Rattle.std.proofs.Common.{◌≡◌, ◌≤◌, ◌+◌, ℕ, [], ◌∷◌, ◌++◌, max, length, false, Some, None, Ok, Err, refl, ap, sym, subst, ◌∙◌, arith}
 use Rattle.std.specs.Prelude.{◌&&◌}
-use Rattle.den_disk.specs.Families.{OldOrNew}
 use Rattle.std.specs.List.Sorted.{IsStrictlySortedBy}
+use Rattle.std.proofs.lemmas.Result.{on_ok_weaker, IfErr-weaker}
 use Rattle.den_disk.specs.declared.place.Family.TheVariants.{State}
-use Rattle.den_model.specs.declared.log_id.LogId.{LogId}
-use Rattle.den_model.specs.MapState.{MapState, map_after_payload}
+use Rattle.den_model.specs.declared.journal.JournalRecord.TheVariants.{Cleanup}
+use Rattle.den_model.specs.declared.region.StateRegion.{StateRegion}
+use Rattle.den_model.specs.declared.region.StateRegion.TheVariants.{Records}
+use Rattle.den_model.specs.MapState.{MapState, map_after}
+use Rattle.den_model.specs.Sizes.{store_rise}
+use Rattle.den_model.specs.Spelling.{state_region_word}
 use Rattle.den_model.specs.Table.{by_bytes}
+use Rattle.den_disk.specs.declared.place.Place.{Place}
+use Rattle.den_gate.specs.Gate.{payloads}
+use Rattle.den_gate.specs.Slot.{payloads_of}
 use Rattle.den_lease.specs.Due.{has_due}
 use Rattle.den_map.specs.Cleanup.{cleaned_map}
-use Rattle.den_map.specs.Tail.{tail_after_payload}
-use Rattle.den_state.specs.declared.file_machine.FileStateMachine.{FileStateMachine}
-use Rattle.den_gate.specs.Gate.{payloads}
-use Rattle.den_state.specs.Machine.{GivesMap, map_held, stored_map}
-use Rattle.den_state.proofs.Tails.{tail_appended}
+use Rattle.den_journal.specs.Shown.{held_in}
+use Rattle.den_journal.proofs.Moving.{writes_nothing, writes_refused}
+use Rattle.den_journal.proofs.Seen.{writes_part, refused_same}
+use Rattle.den_state.specs.Cleanup.{cleaned_where}
+use Rattle.den_state.specs.FileState.{map_held, state_lies, state_map, stored_of}
+use Rattle.den_state.specs.Folds.{held_map}
+use Rattle.den_state.specs.Stored.{Stored, IsLawful, MayWant, map_by, nothing_stored, stored_from}
+use Rattle.den_state.proofs.Chunks.{both_ways}
 use Rattle.den_state.proofs.Cleaning.{nothing_cleaned, nothing_removed, due_cleaned}
-use Rattle.den_state.proofs.Resting.{held_still, images_still}
+use Rattle.den_state.proofs.Marks.{lawful_by, cleanup_after}
+use Rattle.den_state.proofs.Weighing.{light_cleanup}
 use Rattle.den_state.proofs.file_machine.FileStateMachineStateMachine.lease_background_cleanup.Goals as goal
 
-pub returns-then-not-is_due-clause-own : goal.returns-then-not-is_due-clause-own
-returns-then-not-is_due-clause-own g c = λ tells.
-    held_still g.D.Disk.kind g.D.Disk.content g.D.Disk.moment g.D.Disk.images g.D.Disk.faults c.args.disk.now c.args.self.now.gate (stored_map c.args.self.now) _ (λ files. g.met.D.Disk.images_now c.args.disk.now files tells) (c.requires.keeps tells).files
+-- what the region of a cleanup gives of the map, and that it wants no memory
+region_gives : (m : MapState) (at : ℕ) (r : StateRegion) → r ≡ Records (Cleanup at ∷ []) → map_after m r ≡ Some (cleaned_map at m)
+region_gives m at r is = ap (map_after m) is ∙ cleanup_after m at
 
-pub returns-then-not-is_due-clause-others : goal.returns-then-not-is_due-clause-others
-returns-then-not-is_due-clause-others g c = λ tells. images_still g.D.Disk.kind g.D.Disk.content g.D.Disk.moment g.D.Disk.images g.D.Disk.faults c.args.disk.now State
+wants_none : (at : ℕ) (r : StateRegion) → r ≡ Records (Cleanup at ∷ []) → MayWant r → ⊥
+wants_none at r is may = let never : ◌≡◌ {A = _} (Some at) None = subst MayWant is may in absurd (cc never)
+
+region_size : (at moment : ℕ) (r : StateRegion) → r ≡ Records (Cleanup at ∷ []) → at ≡ moment
+    → (length (state_region_word r) ≡ length (state_region_word (Records (Cleanup moment ∷ [])))) × (9 + length (state_region_word r) ≤ store_rise 0)
+region_size at moment r is same =
+    let size : length (state_region_word r) ≡ length (state_region_word (Records (Cleanup moment ∷ []))) = ap (λ (x : StateRegion). length (state_region_word x)) (is ∙ ap (λ (n : ℕ). Records (Cleanup n ∷ [])) same) in
+    (size, omega (arith, light_cleanup moment, size))
+
+pub returns-then-not-is_due-clause-writes : goal.returns-then-not-is_due-clause-writes
+returns-then-not-is_due-clause-writes g c =
+    let s = c.args.self.now in
+    let d = c.args.disk.now in
+    let stands = c.requires.stands in
+    let moment : c.get.result ≡ max c.args.now 1 = c.get.ensures.is ∙ c.of-moment.ensures ∙ c.max.ensures in
+    let none : (s.leased && has_due (max c.args.now 1) s.journal.held.map.expiries) ≡ false = ap (λ n. s.leased && has_due n s.journal.held.map.expiries) (sym moment) ∙ sym c.is_due.ensures ∙ c.if-not-is_due.true in
+    writes_nothing g.D.Disk State map_held _ _ _ d stands.ready stands.rests
+    (λ tells files i. state_lies.rests_hold s (g.D.Disk.content d) files stands.ready (stands.rests tells) ((g.met.D.Disk.images_now d files tells).0 i))
+    _ (sym (nothing_cleaned s.leased (max c.args.now 1) s.journal.held.map none)) (omega arith)
 
 pub returns-then-not-is_due-clause-cleaned : goal.returns-then-not-is_due-clause-cleaned
 returns-then-not-is_due-clause-cleaned g c =
     let s = c.args.self.now in
     let moment : c.get.result ≡ max c.args.now 1 = c.get.ensures.is ∙ c.of-moment.ensures ∙ c.max.ensures in
-    let none : (s.leased && has_due (max c.args.now 1) s.map.expiries) ≡ false = ap (λ n. s.leased && has_due n s.map.expiries) (sym moment) ∙ sym c.is_due.ensures ∙ c.if-not-is_due.true in
-    sym (nothing_cleaned s.leased (max c.args.now 1) s.map none)
+    let none : (s.leased && has_due (max c.args.now 1) s.journal.held.map.expiries) ≡ false = ap (λ n. s.leased && has_due n s.journal.held.map.expiries) (sym moment) ∙ sym c.is_due.ensures ∙ c.if-not-is_due.true in
+    sym (nothing_cleaned s.leased (max c.args.now 1) (state_map s) none)
 
 pub returns-then-not-is_due-clause-keys : goal.returns-then-not-is_due-clause-keys
 returns-then-not-is_due-clause-keys g c =
     let s = c.args.self.now in
     let moment : c.get.result ≡ max c.args.now 1 = c.get.ensures.is ∙ c.of-moment.ensures ∙ c.max.ensures in
-    let none : (s.leased && has_due (max c.args.now 1) s.map.expiries) ≡ false = ap (λ n. s.leased && has_due n s.map.expiries) (sym moment) ∙ sym c.is_due.ensures ∙ c.if-not-is_due.true in
-    c.of.ensures ∙ c.new.ensures.items ∙ sym (nothing_removed s.leased (max c.args.now 1) s.map none)
+    let none : (s.leased && has_due (max c.args.now 1) s.journal.held.map.expiries) ≡ false = ap (λ n. s.leased && has_due n s.journal.held.map.expiries) (sym moment) ∙ sym c.is_due.ensures ∙ c.if-not-is_due.true in
+    c.of.ensures ∙ c.new.ensures.items ∙ sym (nothing_removed s.leased (max c.args.now 1) (state_map s) none)
 
 pub returns-then-not-is_due-clause-sorted : goal.returns-then-not-is_due-clause-sorted
 unfolding IsStrictlySortedBy
 returns-then-not-is_due-clause-sorted g c = subst (IsStrictlySortedBy by_bytes) (sym (c.of.ensures ∙ c.new.ensures.items)) tt
 
-pub returns-in_err-due-clause-own : goal.returns-in_err-due-clause-own
-returns-in_err-due-clause-own g c = λ tells.
-    held_still g.D.Disk.kind g.D.Disk.content g.D.Disk.moment g.D.Disk.images g.D.Disk.faults c.args.disk.now c.args.self.now.gate (stored_map c.args.self.now) _ (λ files. g.met.D.Disk.images_now c.args.disk.now files tells) (c.requires.keeps tells).files
+pub returns-in_err-due-clause-writes : goal.returns-in_err-due-clause-writes
+returns-in_err-due-clause-writes g c =
+    let s = c.requires.stands in
+    let d = c.args.disk.now in
+    writes_refused g.D.Disk State map_held _ _ _ d s.ready s.rests
+    (λ tells files i. state_lies.rests_hold c.args.self.now (g.D.Disk.content d) files s.ready (s.rests tells) ((g.met.D.Disk.images_now d files tells).0 i))
+    c.from_residual.result c.from_residual.ensures.1 refl refl
 
-pub returns-in_err-due-clause-others : goal.returns-in_err-due-clause-others
-returns-in_err-due-clause-others g c = λ tells. images_still g.D.Disk.kind g.D.Disk.content g.D.Disk.moment g.D.Disk.images g.D.Disk.faults c.args.disk.now State
-
-pub returns-in_err-append-clause-own : goal.returns-in_err-append-clause-own
-returns-in_err-append-clause-own g c = λ tells.
+pub change-requires-clause-lawful : goal.change-requires-clause-lawful
+change-requires-clause-lawful g c =
     let s = c.args.self.now in
+    lawful_by (stored_of s) c.in_ok-due.due.region _ (region_gives s.journal.held.map c.of-moment.result c.in_ok-due.due.region c.in_ok-due.ensures.region)
+
+pub invariant_of-self : goal.invariant_of-self
+invariant_of-self g c =
+    let s = c.args.self.now in
+    let m = s.journal.held.map in
+    let w = c.change.ensures.writes in
+    let n = c.change.new.self.held.map in
+    let r = c.in_ok-due.due.region in
     let at = c.of-moment.result in
-    let after = ap (map_after_payload (stored_map s)) c.deref.ensures.value ∙ c.in_ok-due.ensures.means (stored_map s) in
-    let same = due_cleaned s.leased (has_due c.get.result s.map.expiries) at (max c.args.now 1) (stored_map s) (sym c.is_due.ensures ∙ c.if-not-is_due.false) (c.of-moment.ensures ∙ c.max.ensures) in
-    subst (OldOrNew map_held (g.D.Disk.images c.append.new.disk) (g.D.Disk.moment c.args.disk.now) (g.D.Disk.moment c.append.new.disk) (stored_map s)) same
-    (c.append.ensures.own tells (stored_map s) (cleaned_map at (stored_map s)) (c.requires.keeps tells).files after)
-
-pub returns-clause-own : goal.returns-clause-own
-returns-clause-own g c = λ tells.
-    let s = c.args.self.now in
-    let at = c.of-moment.result in
-    let after = ap (map_after_payload (stored_map s)) c.deref.ensures.value ∙ c.in_ok-due.ensures.means (stored_map s) in
-    let same = due_cleaned s.leased (has_due c.get.result s.map.expiries) at (max c.args.now 1) (stored_map s) (sym c.is_due.ensures ∙ c.if-not-is_due.false) (c.of-moment.ensures ∙ c.max.ensures) in
-    subst (OldOrNew map_held (g.D.Disk.images c.append.new.disk) (g.D.Disk.moment c.args.disk.now) (g.D.Disk.moment c.append.new.disk) (stored_map s)) same
-    (c.append.ensures.own tells (stored_map s) (cleaned_map at (stored_map s)) (c.requires.keeps tells).files after)
-
-pub returns-clause-keeps : goal.returns-clause-keeps
-returns-clause-keeps g c = λ tells.
-    let s = c.args.self.now in
-    let moment = c.of-moment.result in
-    let k = c.requires.keeps tells in
-    let map : c.clean.new.self ≡ cleaned_map moment s.map = c.clean.ensures ∙ ap (λ (m : FileStateMachine). cleaned_map moment m.map) c.append.ensures.rest in
-    let stored : c.append.new.self.stored ≡ s.stored = ap (λ (m : FileStateMachine). m.stored) c.append.ensures.rest in
-    let count : c.saturating_add-self.result ≡ min (s.tail + 1) (2 ^ 64 - 1) = c.saturating_add-self.ensures ∙ ap (λ (m : FileStateMachine). min (m.tail + 1) (2 ^ 64 - 1)) c.append.ensures.rest in
-    let after = ap (map_after_payload (stored_map s)) c.deref.ensures.value ∙ c.in_ok-due.ensures.means (stored_map s) in
-    let files = c.in_ok-append.ensures.gives tells (stored_map s) (cleaned_map moment (stored_map s)) k.files after in
-    let same : cleaned_map moment (stored_map s) ≡ record c.clean.new.self { mark = c.append.new.self.stored } = λ i. record (sym map i) { mark = sym stored i } in
+    let after = region_gives m at r c.in_ok-due.ensures.region in
     record {
-      files = subst (λ m. GivesMap c.append.new.self.gate m (g.D.Disk.content c.append.new.disk)) same files;
-      below = omega (arith, k.below, ap (λ (m : MapState). m.mark.index) map, ap (λ (p : LogId). p.index) stored);
-      tail = tail_appended (payloads s.gate (g.D.Disk.content c.args.disk.now).reading) _ c.deref.result.now s.tail _ (c.in_ok-append.ensures.appended tells) k.tail
-          (count ∙ sym (ap (tail_after_payload s.tail) c.deref.ensures.value ∙ c.in_ok-due.ensures.counts s.tail));
+      below = both_ways c.change.result
+          (on_ok_weaker c.change.result (λ b. let value : n ≡ cleaned_map at m = ap (λ (v : Stored). v.map) b.value ∙ ap (map_by m) after in omega (arith, s.below, ap (λ (x : MapState). x.mark.index) value)) w.done)
+          (IfErr-weaker c.change.result _ _ (λ e x. let same : n ≡ m = ap (λ (v : Stored). v.map) (refused_same g.D.Disk _ _ _ _ State _ _ e (wants_none at r c.in_ok-due.ensures.region) x) in omega (arith, s.below, ap (λ (y : MapState). y.mark.index) same)) w.refused);
     }
+
+pub returns-in-Ok-clause-writes : goal.returns-in-Ok-clause-writes
+returns-in-Ok-clause-writes g c =
+    let s = c.args.self.now in
+    let m = s.journal.held.map in
+    let r = c.in_ok-due.due.region in
+    let at = c.of-moment.result in
+    let same = c.of-moment.ensures ∙ c.max.ensures in
+    let after = region_gives m at r c.in_ok-due.ensures.region in
+    let cleaned = due_cleaned s.leased (has_due c.get.result m.expiries) at (max c.args.now 1) m (sym c.is_due.ensures ∙ c.if-not-is_due.false) same in
+    let size = region_size at (max c.args.now 1) r c.in_ok-due.ensures.region same in
+    writes_part g.D.Disk State (held_in State (stored_from nothing_stored)) map_held (λ (v : Stored). v.map) _ _ _ _ _ _ held_map (ap (map_by m) after ∙ cleaned) size.0 size.1 (wants_none at r c.in_ok-due.ensures.region) (Ok _) (Ok _) tt c.in-Ok.ensures.writes
+
+pub returns-in-Ok-clause-cleaned : goal.returns-in-Ok-clause-cleaned
+returns-in-Ok-clause-cleaned g c =
+    let s = c.args.self.now in
+    let m = s.journal.held.map in
+    let r = c.in_ok-due.due.region in
+    let at = c.of-moment.result in
+    let same = c.of-moment.ensures ∙ c.max.ensures in
+    let after = region_gives m at r c.in_ok-due.ensures.region in
+    let value : c.change.new.self.held.map ≡ cleaned_map at m = ap (λ (v : Stored). v.map) c.in-Ok.ensures.writes.done.value ∙ ap (map_by m) after in
+    let marked : record c.change.new.self.held.map { mark = s.applied } ≡ cleaned_map at (state_map s) = λ i. record (value i) { mark = s.applied } in
+    marked ∙ due_cleaned s.leased (has_due c.get.result m.expiries) at (max c.args.now 1) (state_map s) (sym c.is_due.ensures ∙ c.if-not-is_due.false) same
+
+pub returns-in-Err-clause-writes : goal.returns-in-Err-clause-writes
+returns-in-Err-clause-writes g c =
+    let s = c.args.self.now in
+    let m = s.journal.held.map in
+    let r = c.in_ok-due.due.region in
+    let at = c.of-moment.result in
+    let same = c.of-moment.ensures ∙ c.max.ensures in
+    let after = region_gives m at r c.in_ok-due.ensures.region in
+    let cleaned = due_cleaned s.leased (has_due c.get.result m.expiries) at (max c.args.now 1) m (sym c.is_due.ensures ∙ c.if-not-is_due.false) same in
+    let size = region_size at (max c.args.now 1) r c.in_ok-due.ensures.region same in
+    writes_part g.D.Disk State (held_in State (stored_from nothing_stored)) map_held (λ (v : Stored). v.map) _ _ _ _ _ _ held_map (ap (map_by m) after ∙ cleaned) size.0 size.1 (wants_none at r c.in_ok-due.ensures.region) (Err _) (Err _) refl c.in-Err.ensures.writes
+
+pub returns-in-Err-clause-same : goal.returns-in-Err-clause-same
+returns-in-Err-clause-same g c =
+    let s = c.args.self.now in
+    let r = c.in_ok-due.due.region in
+    let same : c.change.new.self.held.map ≡ s.journal.held.map = ap (λ (v : Stored). v.map) (refused_same g.D.Disk _ _ _ _ State _ _ c.in-Err.error (wants_none c.of-moment.result r c.in_ok-due.ensures.region) c.in-Err.ensures.writes.refused) in
+    λ i. record (same i) { mark = s.applied }
+
+pub returns-in-Ok-clause-region : goal.returns-in-Ok-clause-region
+returns-in-Ok-clause-region g c = λ due tells.
+    let s = c.args.self.now in
+    let list = payloads s.journal.gate (g.D.Disk.content c.args.disk.now).reading in
+    let same = c.of-moment.ensures ∙ c.max.ensures in
+    sym (ap (λ (p : Place). payloads_of ((g.D.Disk.content c.change.new.disk).reading p)) c.change.ensures.slot) ∙ c.in-Ok.ensures.appended tells ∙ ap (λ (r : StateRegion). list ++ state_region_word r ∷ []) (c.in_ok-due.ensures.region ∙ ap (λ (n : ℕ). Records (Cleanup n ∷ [])) same)

@@ -1,34 +1,60 @@
-use Rattle.std.proofs.Common.{◌≡◌, ◌≤◌, ap, sym, subst, ◌∙◌, arith}
+use Rattle.std.proofs.Common.{◌≡◌, ◌≤◌, ℕ, Ok, Err, refl, sym, ap, ◌∙◌, arith}
 use Rattle.den_disk.specs.declared.place.Family.TheVariants.{State}
-use Rattle.den_model.specs.MapState.{MapState, map_after_payload}
-use Rattle.den_map.specs.Tail.{tail_after_payload}
-use Rattle.den_state.specs.declared.file_machine.FileStateMachine.{FileStateMachine}
-use Rattle.den_gate.specs.Gate.{payloads}
-use Rattle.den_state.specs.Machine.{GivesMap, stored_map}
-use Rattle.den_state.proofs.Tails.{tail_appended}
-use Rattle.den_state.proofs.Resting.{held_still, images_still}
+use Rattle.den_disk.specs.declared.place.Place.{Place}
+use Rattle.den_gate.specs.Slot.{payloads_of}
+use Rattle.den_model.specs.declared.region.StateRegion.TheVariants.{Mark}
+use Rattle.den_model.specs.MapState.{MapState}
+use Rattle.den_journal.specs.Shown.{held_in}
+use Rattle.den_journal.proofs.Seen.{writes_part, refused_same}
+use Rattle.den_state.specs.FileState.{map_held, stored_of}
+use Rattle.den_state.specs.Folds.{held_map}
+use Rattle.den_state.specs.Stored.{Stored, map_by, nothing_stored, stored_from}
+use Rattle.den_state.proofs.Marks.{lawful_by, mark_after}
+use Rattle.den_state.proofs.Weighing.{light_mark}
 use Rattle.den_state.proofs.file_machine.FileStateMachineStateMachine.persist_last_applied.Goals as goal
 
-pub returns-in_err-payload-clause-own : goal.returns-in_err-payload-clause-own
-returns-in_err-payload-clause-own g c = λ tells.
-    held_still g.D.Disk.kind g.D.Disk.content g.D.Disk.moment g.D.Disk.images g.D.Disk.faults c.args.disk.now c.args.self.now.gate (stored_map c.args.self.now) _ (λ files. g.met.D.Disk.images_now c.args.disk.now files tells) (c.requires.keeps tells).files
+pub change-requires-clause-stands : goal.change-requires-clause-stands
+change-requires-clause-stands g c = record { ready = c.requires.stands.ready; rests = c.requires.stands.rests }
 
-pub returns-in_err-payload-clause-others : goal.returns-in_err-payload-clause-others
-returns-in_err-payload-clause-others g c = λ tells. images_still g.D.Disk.kind g.D.Disk.content g.D.Disk.moment g.D.Disk.images g.D.Disk.faults c.args.disk.now State
-
-pub returns-clause-rests : goal.returns-clause-rests
-returns-clause-rests g c = λ tells.
+pub change-requires-clause-lawful : goal.change-requires-clause-lawful
+change-requires-clause-lawful g c =
     let s = c.args.self.now in
-    let last = c.args.last_applied in
-    let k = c.requires.keeps tells in
-    let below : s.stored.index ≤ last.index = omega (arith, k.below, c.requires.above) in
-    let map : c.set_mark.new.self ≡ record s.map { mark = last } = c.set_mark.ensures ∙ ap (λ (m : FileStateMachine). record m.map { mark = last }) c.append.ensures.rest in
-    let tail : c.append.new.self.tail ≡ s.tail = ap (λ (m : FileStateMachine). m.tail) c.append.ensures.rest in
-    let after = ap (map_after_payload (stored_map s)) c.deref.ensures.value ∙ c.in_ok-payload.ensures.means (stored_map s) below in
-    let files = c.in_ok-append.ensures.gives tells (stored_map s) (record s.map { mark = last }) k.files after in
-    record {
-      files = subst (λ m. GivesMap c.append.new.self.gate m (g.D.Disk.content c.append.new.disk)) (sym map) files;
-      stored = sym (ap (λ (m : MapState). m.mark) map);
-      tail = tail_appended (payloads s.gate (g.D.Disk.content c.args.disk.now).reading) _ c.deref.result.now s.tail c.append.new.self.tail (c.in_ok-append.ensures.appended tells) k.tail
-          (tail ∙ sym (ap (tail_after_payload s.tail) c.deref.ensures.value ∙ c.in_ok-payload.ensures.counts s.tail));
-    }
+    let p = c.args.last_applied in
+    lawful_by (stored_of s) (Mark p.index p.term) _ (mark_after s.journal.held.map p.index p.term (omega (arith, s.below, c.requires.above)))
+
+pub returns-in-Ok-clause-writes : goal.returns-in-Ok-clause-writes
+returns-in-Ok-clause-writes g c =
+    let s = c.args.self.now in
+    let p = c.args.last_applied in
+    let m = s.journal.held.map in
+    let after = mark_after m p.index p.term (omega (arith, s.below, c.requires.above)) in
+    writes_part g.D.Disk State (held_in State (stored_from nothing_stored)) map_held (λ (v : Stored). v.map) _ _ _ _ _ _ held_map (ap (map_by m) after) refl (light_mark p.index p.term) (λ h. h) (Ok _) (Ok _) tt c.in-Ok.ensures.writes
+
+pub returns-in-Err-clause-writes : goal.returns-in-Err-clause-writes
+returns-in-Err-clause-writes g c =
+    let s = c.args.self.now in
+    let p = c.args.last_applied in
+    let m = s.journal.held.map in
+    let after = mark_after m p.index p.term (omega (arith, s.below, c.requires.above)) in
+    writes_part g.D.Disk State (held_in State (stored_from nothing_stored)) map_held (λ (v : Stored). v.map) _ _ _ _ _ _ held_map (ap (map_by m) after) refl (light_mark p.index p.term) (λ h. h) (Err _) (Err _) refl c.in-Err.ensures.writes
+
+pub invariant_of-self : goal.invariant_of-self
+invariant_of-self g c =
+    let s = c.args.self.now in
+    let p = c.args.last_applied in
+    let m = s.journal.held.map in
+    let after = mark_after m p.index p.term (omega (arith, s.below, c.requires.above)) in
+    let value : c.change.new.self.held.map ≡ record m { mark = p } = ap (λ (v : Stored). v.map) c.in-Ok.ensures.writes.done.value ∙ ap (map_by m) after in
+    record { below = omega (arith, ap (λ (x : MapState). x.mark.index) value) }
+
+pub returns-in-Ok-clause-map : goal.returns-in-Ok-clause-map
+returns-in-Ok-clause-map g c =
+    let s = c.args.self.now in
+    let p = c.args.last_applied in
+    let m = s.journal.held.map in
+    let after = mark_after m p.index p.term (omega (arith, s.below, c.requires.above)) in
+    let value : c.change.new.self.held.map ≡ record m { mark = p } = ap (λ (v : Stored). v.map) c.in-Ok.ensures.writes.done.value ∙ ap (map_by m) after in
+    λ i. record (value i) { mark = p }
+
+pub returns-in-Ok-clause-region : goal.returns-in-Ok-clause-region
+returns-in-Ok-clause-region g c = λ tells. sym (ap (λ (p : Place). payloads_of ((g.D.Disk.content c.change.new.disk).reading p)) c.change.ensures.slot) ∙ c.in-Ok.ensures.appended tells

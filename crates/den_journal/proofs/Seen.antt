@@ -1,0 +1,110 @@
+-- A store of whose value a part is seen.
+use Rattle.std.proofs.Common.{◌≡◌, refl, inl, inr, ⊎_elim, ℕ, ◌+◌, ◌≤◌, List, [], ◌∷◌, Option, Some, Result, Ok, Err, ap, ◌∙◌, subst, arith}
+use Rattle.den_disk.specs.declared.disk.Disk.{Ghosts}
+use Rattle.den_disk.specs.declared.place.Family.{Family}
+use Rattle.den_disk.specs.Files.{Files}
+use Rattle.den_model.specs.Image.{slot_of}
+use Rattle.den_codec.specs.declared.error.Error.{Error}
+use Rattle.den_codec.specs.declared.error.Error.TheVariants as error
+use Rattle.den_codec.specs.Full.{IsHeavy}
+use Rattle.den_journal.specs.Causes.{IsFullFor}
+use Rattle.den_journal.specs.Folding.{IsUnread}
+use Rattle.den_journal.specs.Shown.{Change, Shown, seen_as}
+use Rattle.den_journal.specs.Writes.{Tells, Moves, Becomes, Untouched, IsLost, IsRefused, Writes}
+
+-- ---- a heavier weight
+
+more_heavy : (most weight more : ℕ) (e : Error) → weight ≤ more → IsHeavy most weight e → IsHeavy most more e
+more_heavy most weight more error.OutOfMemory le h = tt
+more_heavy most weight more error.StorageIoError le h = tt
+more_heavy most weight more (error.DiskFull needed limit) le h = omega arith
+more_heavy most weight more error.LinkFault le h = tt
+more_heavy most weight more (error.DataCorruption place offset) le h = tt
+more_heavy most weight more error.FeatureNotEnabled le h = tt
+more_heavy most weight more error.ProposeFailed le h = tt
+more_heavy most weight more (error.UnorderedChunk index) le h = tt
+more_heavy most weight more (error.Config place) le h = tt
+more_heavy most weight more error.StateMachineError le h = tt
+
+-- ---- a call that writes
+
+-- two answers of one outcome
+abbrev pub IsSameOutcome : {S T : Type 0} → Result S Error → Result T Error → Type 0
+IsSameOutcome (Ok x) (Ok y) = Unit {0}
+IsSameOutcome (Err e) (Err f) = e ≡ f
+IsSameOutcome _ _ = ⊥
+
+module _ {D V W : Type 0} (disk : Ghosts D) (family : Family) (holds : Files → Option V) (held : Files → Option W) (part : V → W) (was now : Shown V) (old new : D) (change : Change V) (made : Change W)
+    (gives : (files : Files) (v : V) → holds files ≡ Some v → held files ≡ Some (part v)) (to : part change.to ≡ made.to) (size : change.size ≡ made.size) (rise : change.rise ≤ made.rise) (lost : change.lost → made.lost) where
+  made_some : (files : Files) → holds files ≡ Some change.to → held files ≡ Some made.to
+  made_some files is = gives files change.to is ∙ ap (λ w. Some w) to
+
+  moves_part : Moves disk family holds (was.value ∷ change.to ∷ []) old new → Moves disk family held (part was.value ∷ made.to ∷ []) old new
+  moves_part m = record {
+    own = λ t files low high i. ⊎_elim (λ before. inl (gives files was.value before)) (λ after. inr (made_some files after)) (m.own t files low high i);
+    others = m.others;
+    spares = m.spares;
+  }
+
+  becomes_part : Becomes disk was now old new change → Becomes disk (seen_as part was) (seen_as part now) old new made
+  becomes_part b = record { value = ap part b.value ∙ to; weight = omega (arith, b.weight, rise); ready = b.ready; rests = b.rests }
+
+  untouched_part : Untouched disk was now old new → Untouched disk (seen_as part was) (seen_as part now) old new
+  untouched_part u = record { same_disk = u.same_disk; same_value = ap part u.same_value; same_weight = u.same_weight; ready = u.ready; rests = u.rests }
+
+  lost_part : IsLost disk was now old new holds change → IsLost disk (seen_as part was) (seen_as part now) old new held made
+  lost_part l = record { may_be = lost l.may_be; failed = l.failed; held = λ tells files i. made_some files (l.held tells files i) }
+
+  refused_part : (e : Error) → IsRefused disk was now old new family holds change e → IsRefused disk (seen_as part was) (seen_as part now) old new family held made e
+  refused_part e r = record {
+    cause = r.cause;
+    full = subst (λ (n : ℕ). IsFullFor (Tells disk old) ((disk.content old).reading (slot_of family (disk.content old).reading)) was.weight n e) size r.full;
+    heavy = more_heavy (disk.kind old).limit (was.weight + change.rise) (was.weight + made.rise) e (omega (arith, rise)) r.heavy;
+    untouched = λ is. ⊎_elim (λ u. inl (untouched_part u)) (λ l. inr (lost_part l)) (r.untouched is);
+    failed = r.failed;
+    kept = λ of_disk. ap part (r.kept of_disk);
+  }
+
+  pub writes_part : {S T : Type 0} (r : Result S Error) (q : Result T Error) → IsSameOutcome r q → Writes disk was now old new family holds change r → Writes disk (seen_as part was) (seen_as part now) old new family held made q
+  writes_part (Ok x) (Ok y) same w = record { goes_on = w.goes_on; moves = λ tells. moves_part (w.moves tells); done = becomes_part w.done; refused = tt }
+  writes_part (Err e) (Err f) same w = record {
+    goes_on = w.goes_on;
+    moves = λ tells. moves_part (w.moves tells);
+    done = tt;
+    refused = subst (λ (x : Error). IsRefused disk (seen_as part was) (seen_as part now) old new family held made x) same (refused_part e w.refused);
+  }
+  writes_part (Ok x) (Err f) same w = absurd same
+  writes_part (Err e) (Ok y) same w = absurd same
+
+-- ---- an opening
+
+pub unread_part : {V W : Type 0} (rose told : Type 0) (at : ℕ) (one : Result V ℕ) (other : Result W ℕ) (e : Error) → ((offset : ℕ) → one ≡ Err offset → other ≡ Err offset)
+    → IsUnread rose (λ place offset. told → (place ≡ at) × (one ≡ Err offset)) e → IsUnread rose (λ place offset. told → (place ≡ at) × (other ≡ Err offset)) e
+unread_part rose told at one other error.OutOfMemory gives h = tt
+unread_part rose told at one other error.StorageIoError gives h = h
+unread_part rose told at one other (error.DiskFull needed limit) gives h = h
+unread_part rose told at one other error.LinkFault gives h = h
+unread_part rose told at one other (error.DataCorruption place offset) gives h = λ t. ((h t).0, gives offset (h t).1)
+unread_part rose told at one other error.FeatureNotEnabled gives h = h
+unread_part rose told at one other error.ProposeFailed gives h = h
+unread_part rose told at one other (error.UnorderedChunk index) gives h = h
+unread_part rose told at one other (error.Config place) gives h = h
+unread_part rose told at one other error.StateMachineError gives h = h
+
+-- ---- a refused call
+
+-- a call that takes no memory behind its write leaves the value, whatever refused it
+pub refused_same : {D V : Type 0} (disk : Ghosts D) (was now : Shown V) (old new : D) (family : Family) (holds : Files → Option V) (change : Change V) (e : Error) → (change.lost → ⊥)
+    → IsRefused disk was now old new family holds change e → now.value ≡ was.value
+refused_same disk was now old new family holds change error.OutOfMemory never r = ⊎_elim (λ u. u.same_value) (λ l. absurd (never l.may_be)) (r.untouched refl)
+refused_same disk was now old new family holds change error.StorageIoError never r = r.kept tt
+refused_same disk was now old new family holds change (error.DiskFull needed limit) never r = r.kept tt
+refused_same disk was now old new family holds change _ never r = absurd r.cause
+
+-- and so does any that can go on
+pub refused_ready : {D V : Type 0} (disk : Ghosts D) (was now : Shown V) (old new : D) (family : Family) (holds : Files → Option V) (change : Change V) (e : Error) → now.ready
+    → IsRefused disk was now old new family holds change e → now.value ≡ was.value
+refused_ready disk was now old new family holds change error.OutOfMemory ready r = ⊎_elim (λ u. u.same_value) (λ l. absurd (l.failed ready)) (r.untouched refl)
+refused_ready disk was now old new family holds change error.StorageIoError ready r = r.kept tt
+refused_ready disk was now old new family holds change (error.DiskFull needed limit) ready r = r.kept tt
+refused_ready disk was now old new family holds change _ ready r = absurd r.cause

@@ -1,0 +1,24 @@
+-- What the calls of a state machine change of the map that its files give.
+use Rattle.std.specs.Prelude.{ℕ, Bool, List, [], ◌∷◌, length}
+use Rattle.den_model.specs.declared.journal.JournalRecord.TheVariants.{Cleanup}
+use Rattle.den_model.specs.declared.log_id.LogId.{LogId}
+use Rattle.den_model.specs.declared.region.StateRegion.TheVariants.{Mark, Records}
+use Rattle.den_model.specs.Entries.{LogEntry}
+use Rattle.den_model.specs.MapState.{MapState, map_applied_all}
+use Rattle.den_model.specs.Sizes.{entries_size, store_rise}
+use Rattle.den_model.specs.Spelling.{state_region_word}
+use Rattle.den_map.specs.Journal.{all_recorded}
+use Rattle.den_journal.specs.Shown.{Change}
+use Rattle.den_state.specs.Cleanup.{cleaned_where}
+
+-- entries, by one region of their records, which the map may want memory to take on
+abbrev pub chunk_change : MapState → List LogEntry → Change MapState
+chunk_change m chunk = record { to = map_applied_all m chunk; size = length (state_region_word (Records (all_recorded m chunk))); rise = store_rise (entries_size chunk); lost = Unit {0} }
+
+-- a region that moves the mark
+abbrev pub mark_change : MapState → LogId → Change MapState
+mark_change m mark = record { to = record m { mark = mark }; size = length (state_region_word (Mark mark.index mark.term)); rise = store_rise 0; lost = ⊥ }
+
+-- a region of a cleanup's record
+abbrev pub cleanup_change : Bool → ℕ → MapState → Change MapState
+cleanup_change leased moment m = record { to = cleaned_where leased moment m; size = length (state_region_word (Records (Cleanup moment ∷ []))); rise = store_rise 0; lost = ⊥ }
