@@ -4,9 +4,8 @@
 //! that they hold. Its invariant is that each key that expires has a pair. Behind the tables stand ordered maps: a look-up
 //! and a change cost O(log n), a cleanup O(log n) for each key that is due, a scan the keys that it finds.
 //!
-//! - `Map::add_list` folds the regions of a journal, and refuses the first that is not lawful.
-//! - `Map::journal` makes the records, the results and the region of a chunk, and leaves the map as it is; `Map::take_on`
-//!   carries such records out.
+//! - `Map::add` folds one more region of a journal, where it is lawful there; `Map::follow` carries out one that is known to be.
+//! - `Map::journal` makes the records, the results and the region of a chunk, and leaves the map as it is.
 //! - `Map::clean` carries out a cleanup; `Map::has_due` and `Map::due_keys` say beforehand what it removes.
 #![tactic(auto)]
 
