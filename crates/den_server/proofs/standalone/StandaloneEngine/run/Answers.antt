@@ -16,6 +16,7 @@ use Rattle.den_core.specs.Refusals.{IsServeRefusal}
 use Rattle.den_core.specs.Weights.{run_weight}
 use Rattle.den_store.specs.FileLog.{log_shown}
 use Rattle.den_store.specs.FileMeta.{meta_shown}
+use Rattle.den_state.specs.FileState.{state_map}
 use Rattle.den_server.specs.Opening.{refusal_in, held_weight}
 use Rattle.den_server.proofs.Ended.{rose_then, opening_ended, serving_ended, away, refused_not_read, full_serving, full_opening}
 use Rattle.den_server.proofs.Refused.{if_err_weaker}
@@ -88,8 +89,8 @@ returns-clause-opening g c = λ kept told stands.
     (of_node durable_in (D.images first) (D.images opened) (D.moment first) (D.moment opened) _ _ _ _ kept c.node.ensures (c.in-Ok.ensures.opening kept told.disk_tells stands))
     (c.in-Ok.ensures.kv kept told.disk_tells stands ∙ ap (λ (n : RaftNodeConfig). entered n kept) c.node.ensures)
     (subst (λ (n : RaftNodeConfig). Survives durable_in (D.images last) (D.moment opened) (D.moment last)
-    sent (kv_of ((meta_shown c.in-Ok.engine.meta).value) c.in-Ok.engine.state.map c.in-Ok.engine.running)
-    (plan_over (kv_of ((meta_shown c.in-Ok.engine.meta).value) c.in-Ok.engine.state.map c.in-Ok.engine.running) n.network.max_frame_size (g.L.Link.left c.args.link.now) readings))
+    sent (kv_of ((meta_shown c.in-Ok.engine.meta).value) (state_map c.in-Ok.engine.state) c.in-Ok.engine.running)
+    (plan_over (kv_of ((meta_shown c.in-Ok.engine.meta).value) (state_map c.in-Ok.engine.state) c.in-Ok.engine.running) n.network.max_frame_size (g.L.Link.left c.args.link.now) readings))
     c.node-2.ensures (c.run_from.ensures.any_moment here))
 
 pub returns-clause-any_moment : goal.returns-clause-any_moment
@@ -124,8 +125,8 @@ returns-clause-served g c = on_ok_weaker c.run_from.result (λ served kept log t
     (log_same (log_in (D.content c.args.disk.now).reading) _ log (c.in-Ok.ensures.log told.disk_tells) read)
     (subst (λ (n : RaftNodeConfig). IsServed durable_in (λ files. ok (log_in files)) (D.images c.run_from.new.disk) (D.moment c.run_from.new.disk) (g.L.Link.left c.run_from.new.link) (length readings)
     (length (frames n.network.max_frame_size (g.L.Link.left c.args.link.now)))
-    (added (g.L.Link.sent c.args.link.now) (g.L.Link.sent c.run_from.new.link)) (kv_of (meta_shown c.in-Ok.engine.meta).value c.in-Ok.engine.state.map c.in-Ok.engine.running) (log_shown c.in-Ok.engine.log).value
-    (plan_over (kv_of (meta_shown c.in-Ok.engine.meta).value c.in-Ok.engine.state.map c.in-Ok.engine.running) n.network.max_frame_size (g.L.Link.left c.args.link.now) readings))
+    (added (g.L.Link.sent c.args.link.now) (g.L.Link.sent c.run_from.new.link)) (kv_of (meta_shown c.in-Ok.engine.meta).value (state_map c.in-Ok.engine.state) c.in-Ok.engine.running) (log_shown c.in-Ok.engine.log).value
+    (plan_over (kv_of (meta_shown c.in-Ok.engine.meta).value (state_map c.in-Ok.engine.state) c.in-Ok.engine.running) n.network.max_frame_size (g.L.Link.left c.args.link.now) readings))
     c.node-2.ensures (served here))) c.run_from.ensures.served
 
 pub returns-clause-refused : goal.returns-clause-refused
