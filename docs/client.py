@@ -57,16 +57,26 @@ def told(reply):
     return "refused with " + reply.hex()
 
 
+KINDS = {"put": (put, 2), "get": (get, 1), "delete": (delete, 1)}
+
+
+def requests_of(words):
+    """Each request's words with its body; the usage where they are none."""
+    while words:
+        make, count = KINDS.get(words[0]) or sys.exit(__doc__)
+        given, words = words[: 1 + count], words[1 + count :]
+        if len(given) < 1 + count:
+            sys.exit(__doc__)
+        yield given, make(*(word.encode() for word in given[1:]))
+
+
 def main():
     if len(sys.argv) < 3:
         sys.exit(__doc__)
     program, folder, *words = sys.argv[1:]
-    kinds = {"put": (put, 2), "get": (get, 1), "delete": (delete, 1)}
+    requests = list(requests_of(words))
     server = subprocess.Popen([program, folder], stdin=subprocess.PIPE, stdout=subprocess.PIPE)
-    while words:
-        make, count = kinds[words[0]]
-        given, words = words[: 1 + count], words[1 + count :]
-        body = make(*(word.encode() for word in given[1:]))
+    for given, body in requests:
         print(*given, "->", told(reply_to(server, body)))
     try:
         server.stdin.close()
