@@ -19,9 +19,9 @@ with_regions_more : (xs rs : List Region) → with_regions xs (Ok rs) ≡ Ok (xs
 with_regions_more [] rs = refl
 with_regions_more (x ∷ xs) rs = ap (with_region x) (with_regions_more xs rs)
 
-payloads_more : (place : ℕ) (qs : List (List ℕ)) (rs : List Region) → payloads_in (placed place qs ++ rs) ≡ qs ++ payloads_in rs
-payloads_more place [] rs = refl
-payloads_more place (q ∷ qs) rs = ap (λ (l : List (List ℕ)). q ∷ l) (payloads_more (place + (9 + length q)) qs rs)
+payloads_more : (offset : ℕ) (qs : List (List ℕ)) (rs : List Region) → payloads_in (placed offset qs ++ rs) ≡ qs ++ payloads_in rs
+payloads_more offset [] rs = refl
+payloads_more offset (q ∷ qs) rs = ap (λ (l : List (List ℕ)). q ∷ l) (payloads_more (offset + (9 + length q)) qs rs)
 
 prefix_of : (qs ps : List (List ℕ)) (rest : Result (List Region) ℕ) → with_regions (placed 0 qs) rest ≡ Ok (placed 0 ps) → (more : List (List ℕ)) × (ps ≡ qs ++ more)
 prefix_of qs ps (Ok rs) is = (payloads_in rs, sym (payloads_placed 0 ps) ∙ ap payloads_or_none (sym is) ∙ ap payloads_or_none (with_regions_more (placed 0 qs) rs) ∙ payloads_more 0 qs rs)
@@ -34,20 +34,20 @@ begins_payloads ps qs at file b small whole =
     let read = ap regions split ∙ regions_written 0 qs (drop at file) (all_small qs (omega (arith, b.size))) in
     prefix_of qs ps (regions_behind (0 + length (open_regions qs)) 0 (drop at file)) (sym read ∙ whole)
 
-length-placed : (place : ℕ) (ps : List (List ℕ)) → length (placed place ps) ≡ length ps
-length-placed place [] = refl
-length-placed place (p ∷ ps) = omega (arith, length-placed (place + (9 + length p)) ps)
+length-placed : (offset : ℕ) (ps : List (List ℕ)) → length (placed offset ps) ≡ length ps
+length-placed offset [] = refl
+length-placed offset (p ∷ ps) = omega (arith, length-placed (offset + (9 + length p)) ps)
 
-placed_behind : (place : ℕ) (qs : List (List ℕ)) (p : List ℕ) (more : List (List ℕ)) → slice_get (placed place (qs ++ p ∷ more)) (length qs) ≡ Some (record { place = place + length (open_regions qs); payload = p })
-placed_behind place [] p more = ap (λ (n : ℕ). Some (record { place = n; payload = p })) (omega arith)
-placed_behind place (q ∷ qs) p more =
-    let along : place + (9 + length q) + length (open_regions qs) ≡ place + length (open_regions (q ∷ qs)) = omega (arith, regions_size q qs) in
-    placed_behind (place + (9 + length q)) qs p more ∙ ap (λ (n : ℕ). Some (record { place = n; payload = p })) along
+placed_behind : (offset : ℕ) (qs : List (List ℕ)) (p : List ℕ) (more : List (List ℕ)) → slice_get (placed offset (qs ++ p ∷ more)) (length qs) ≡ Some (record { offset = offset + length (open_regions qs); payload = p })
+placed_behind offset [] p more = ap (λ (n : ℕ). Some (record { offset = n; payload = p })) (omega arith)
+placed_behind offset (q ∷ qs) p more =
+    let along : offset + (9 + length q) + length (open_regions qs) ≡ offset + length (open_regions (q ∷ qs)) = omega (arith, regions_size q qs) in
+    placed_behind (offset + (9 + length q)) qs p more ∙ ap (λ (n : ℕ). Some (record { offset = n; payload = p })) along
 
 module _ (ps : List (List ℕ)) (k at : ℕ) (file : List ℕ) (given : k ≤ length ps) (b : Begins (take k ps) at file) (whole : regions file ≡ Ok (placed 0 ps)) where
   -- a region that stands behind the first ones is the next
   pub next_found : (next : ℕ) (payload : List ℕ) → next < 2 ^ 64 → IsRegion at next payload file
-      → (k + 1 ≤ length ps) × Begins (take (k + 1) ps) next file × (Some (record { place = at; payload = payload }) ≡ slice_get (placed 0 ps) k)
+      → (k + 1 ≤ length ps) × Begins (take (k + 1) ps) next file × (Some (record { offset = at; payload = payload }) ≡ slice_get (placed 0 ps) k)
   next_found next payload small region =
       let qs = take k ps in
       let long : length qs ≡ k = omega (arith, length-take k ps) in
@@ -59,7 +59,7 @@ module _ (ps : List (List ℕ)) (k at : ℕ) (file : List ℕ) (given : k ≤ le
       let here : 0 + length (open_regions qs) ≡ at = omega (arith, b.size) in (
         omega (arith, ap length more.1, length-append (qs ++ payload ∷ []) more.0),
         subst (λ (l : List (List ℕ)). Begins l next file) (sym front) grown,
-        sym (ap (λ (l : List (List ℕ)). slice_get (placed 0 l) k) cut ∙ ap (slice_get (placed 0 (qs ++ payload ∷ more.0))) (sym long) ∙ placed_behind 0 qs payload more.0 ∙ ap (λ (n : ℕ). Some (record { place = n; payload = payload })) here),
+        sym (ap (λ (l : List (List ℕ)). slice_get (placed 0 l) k) cut ∙ ap (slice_get (placed 0 (qs ++ payload ∷ more.0))) (sym long) ∙ placed_behind 0 qs payload more.0 ∙ ap (λ (n : ℕ). Some (record { offset = n; payload = payload })) here),
       )
 
   -- where no region stands there, none is left

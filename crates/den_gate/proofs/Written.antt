@@ -33,10 +33,10 @@ all_small [] small = tt
 all_small (p ∷ ps) small = let size = regions_size p ps in (omega (arith, size), all_small ps (omega (arith, size)))
 
 -- nothing, or a gate that is not open
-none_behind : (place : ℕ) (bytes : List ℕ) → get_or bytes 0 0 ≢ 1 → regions_behind place 0 bytes ≡ Ok []
+none_behind : (offset : ℕ) (bytes : List ℕ) → get_or bytes 0 0 ≢ 1 → regions_behind offset 0 bytes ≡ Ok []
 unfolding regions_behind
-none_behind place [] shut = refl
-none_behind place (gate ∷ bytes) shut = regions_closed place gate bytes shut
+none_behind offset [] shut = refl
+none_behind offset (gate ∷ bytes) shut = regions_closed offset gate bytes shut
 
 with_regions_ok : (rs : List Region) → with_regions rs (Ok []) ≡ Ok rs
 with_regions_ok [] = refl
@@ -56,9 +56,9 @@ holds_regions list end file h =
     ∙ ap (with_regions (placed 0 list)) (none_behind (0 + length (open_regions list)) (drop end file) (λ e. h.closed (sym first ∙ e)))
     ∙ with_regions_ok (placed 0 list)
 
-pub payloads_placed : (place : ℕ) (list : List (List ℕ)) → payloads_in (placed place list) ≡ list
-payloads_placed place [] = refl
-payloads_placed place (p ∷ ps) = ap (λ (l : List (List ℕ)). p ∷ l) (payloads_placed (place + (9 + length p)) ps)
+pub payloads_placed : (offset : ℕ) (list : List (List ℕ)) → payloads_in (placed offset list) ≡ list
+payloads_placed offset [] = refl
+payloads_placed offset (p ∷ ps) = ap (λ (l : List (List ℕ)). p ∷ l) (payloads_placed (offset + (9 + length p)) ps)
 
 pub holds_payloads : (list : List (List ℕ)) (end : ℕ) (file : List ℕ) → Holds list end file → payloads_of file ≡ list
 holds_payloads list end file h = ap payloads_or_none (holds_regions list end file h) ∙ payloads_placed 0 list
@@ -180,17 +180,17 @@ size_is at file field n small read back =
     let split : rest ≡ u64_word n ++ drop 8 rest = sym (take-append-drop 8 rest) ∙ ap (λ (l : List ℕ). l ++ drop 8 rest) (sym read ∙ sym back) in
     ap size_at split ∙ size_again n (drop 8 rest) small
 
-no_field : (place : ℕ) (bytes : List ℕ) → length bytes < 8 → regions_behind place 0 (1 ∷ bytes) ≡ Err place
+no_field : (offset : ℕ) (bytes : List ℕ) → length bytes < 8 → regions_behind offset 0 (1 ∷ bytes) ≡ Err offset
 unfolding regions_behind
-no_field place bytes lt = rw (lt-ltb (length bytes) 8 lt) refl
+no_field offset bytes lt = rw (lt-ltb (length bytes) 8 lt) refl
 
-no_payload : (place : ℕ) (bytes : List ℕ) → 8 ≤ length bytes → length bytes < 8 + size_at bytes → regions_behind place 0 (1 ∷ bytes) ≡ Err place
+no_payload : (offset : ℕ) (bytes : List ℕ) → 8 ≤ length bytes → length bytes < 8 + size_at bytes → regions_behind offset 0 (1 ∷ bytes) ≡ Err offset
 unfolding regions_behind
-no_payload place bytes enough lt = rw (le-ltb (length bytes) 8 enough, lt-ltb (length bytes) (8 + size_at bytes) lt) refl
+no_payload offset bytes enough lt = rw (le-ltb (length bytes) 8 enough, lt-ltb (length bytes) (8 + size_at bytes) lt) refl
 
-region_cut : (place : ℕ) (bytes : List ℕ) → (length bytes < 8) ⊎ (length bytes < 8 + size_at bytes) → regions_behind place 0 (1 ∷ bytes) ≡ Err place
-region_cut place bytes (inl lt) = no_field place bytes lt
-region_cut place bytes (inr lt) = ⊎_elim (λ short. no_field place bytes short) (λ enough. no_payload place bytes enough lt) (cases_lt (length bytes) 8)
+region_cut : (offset : ℕ) (bytes : List ℕ) → (length bytes < 8) ⊎ (length bytes < 8 + size_at bytes) → regions_behind offset 0 (1 ∷ bytes) ≡ Err offset
+region_cut offset bytes (inl lt) = no_field offset bytes lt
+region_cut offset bytes (inr lt) = ⊎_elim (λ short. no_field offset bytes short) (λ enough. no_payload offset bytes enough lt) (cases_lt (length bytes) 8)
 
 pub begins_short : (ps : List (List ℕ)) (at : ℕ) (file : List ℕ) → Begins ps at file → at < 2 ^ 64 → IsCutShort at file → regions file ≡ Err at
 begins_short ps at file b small s =

@@ -26,7 +26,7 @@ next_region reader files = slice_get (placed 0 (payloads_before reader files)) r
 -- the region that a call found, by its gate's offset and its payload
 abbrev pub region_found : Option ℕ → List ℕ → Option Region
 region_found None payload = None
-region_found (Some offset) payload = Some (record { place = offset; payload = payload })
+region_found (Some offset) payload = Some (record { offset = offset; payload = payload })
 
 -- A reader goes on behind the region that it found; where it found none, or was refused, it stands where it stood.
 abbrev pub Advances : Result (Option ℕ) GateError → List ℕ → RegionReader → RegionReader → Type 0

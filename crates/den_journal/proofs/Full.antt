@@ -25,9 +25,9 @@ use Rattle.den_journal.proofs.Opens.{loaded_regions, end_is}
 
 -- ---- files
 
-found : (place : ℕ) (ps : List (List ℕ)) → place + regions_size (placed place ps) ≡ end_from place ps
-found place [] = omega arith
-found place (p ∷ ps) = omega (arith, found (place + (9 + length p)) ps)
+found : (offset : ℕ) (ps : List (List ℕ)) → offset + regions_size (placed offset ps) ≡ end_from offset ps
+found offset [] = omega arith
+found offset (p ∷ ps) = omega (arith, found (offset + (9 + length p)) ps)
 
 -- the regions of a family's files that were loaded
 pub loaded_weight : (family : Family) (gate : GateFile) (old new : Content) → IsLoaded family gate old new → SparesAll old new → gate.end ≡ family_size family old.reading

@@ -7,11 +7,11 @@ use Rattle.std.proofs.lemmas.Option.{slice_get_within, get_or_from_slice_get, sl
 use Rattle.den_model.specs.Regions.{Region, placed}
 use Rattle.den_journal.specs.Folding.{Folds, end_from}
 
-pub placed_append : (place : ℕ) (ps more : List (List ℕ)) → placed place (ps ++ more) ≡ placed place ps ++ placed (end_from place ps) more
-placed_append place [] more = refl
-placed_append place (q ∷ ps) more =
-    let first : Region = record { place = place; payload = q } in
-    ap (λ (rs : List Region). first ∷ rs) (placed_append (place + (9 + length q)) ps more)
+pub placed_append : (offset : ℕ) (ps more : List (List ℕ)) → placed offset (ps ++ more) ≡ placed offset ps ++ placed (end_from offset ps) more
+placed_append offset [] more = refl
+placed_append offset (q ∷ ps) more =
+    let first : Region = record { offset = offset; payload = q } in
+    ap (λ (rs : List Region). first ∷ rs) (placed_append (offset + (9 + length q)) ps more)
 
 -- ---- a fold over regions
 
@@ -19,7 +19,7 @@ module _ {V : Type 0} (after : V → List ℕ → Option V) (from : V → List R
   read_one : (v w : V) (r : Region) (rs more : List Region) → from v (r ∷ rs) ≡ Ok w → ((u : V) → from u rs ≡ Ok w → from u (rs ++ more) ≡ from w more) → (next : Option V) → after v r.payload ≡ next
       → from v (r ∷ (rs ++ more)) ≡ from w more
   read_one v w r rs more is on None e =
-      let bad : ◌≡◌ {A = Result V ℕ} (Err r.place) (Ok w) = sym (folds.stops v r rs e) ∙ is in
+      let bad : ◌≡◌ {A = Result V ℕ} (Err r.offset) (Ok w) = sym (folds.stops v r rs e) ∙ is in
       absurd (cc bad)
   read_one v w r rs more is on (Some u) e = folds.goes_on v u r (rs ++ more) e ∙ on u (sym (folds.goes_on v u r rs e) ∙ is)
 
@@ -35,7 +35,7 @@ module _ {V : Type 0} (after : V → List ℕ → Option V) (from : V → List R
     -- one lawful payload more
     pub grows : (ps : List (List ℕ)) (p : List ℕ) (v w : V) → from empty (placed 0 ps) ≡ Ok v → after v p ≡ Some w → from empty (placed 0 (ps ++ p ∷ [])) ≡ Ok w
     grows ps p v w is next =
-        let last : Region = record { place = end_from 0 ps; payload = p } in
+        let last : Region = record { offset = end_from 0 ps; payload = p } in
         ap (from empty) (placed_append 0 ps (p ∷ [])) ∙ read_on empty v (placed 0 ps) (last ∷ []) is ∙ folds.goes_on v w last [] next ∙ folds.stays w
 
     module _ (rs : List Region) (k : ℕ) (v : V) (so_far : from empty (take k rs) ≡ Ok v) where
@@ -44,7 +44,7 @@ module _ {V : Type 0} (after : V → List ℕ → Option V) (from : V → List R
       ends none = ap (from empty) (sym (take_all k rs (past (cases_lt k (length rs))))) ∙ so_far
         where
           past : (k < length rs) ⊎ (length rs ≤ k) → length rs ≤ k
-          past (inl lt) = absurd (cc (slice_get-get_or rs k (record { place = 0; payload = [] }) lt, none))
+          past (inl lt) = absurd (cc (slice_get-get_or rs k (record { offset = 0; payload = [] }) lt, none))
           past (inr ge) = ge
 
       module _ (r : Region) (here : slice_get rs k ≡ Some r) where
@@ -53,7 +53,7 @@ module _ {V : Type 0} (after : V → List ℕ → Option V) (from : V → List R
             let more : take (k + 1) rs ≡ take k rs ++ r ∷ [] = take_more rs k r (slice_get_within rs k r here) ∙ ap (λ (x : Region). take k rs ++ x ∷ []) (get_or_from_slice_get rs k r r here) in
             ap (from empty) more ∙ read_on empty v (take k rs) (r ∷ []) so_far ∙ folds.goes_on v w r [] next ∙ folds.stays w
 
-        pub stops : after v r.payload ≡ None → from empty rs ≡ Err r.place
+        pub stops : after v r.payload ≡ None → from empty rs ≡ Err r.offset
         stops next =
             let behind : drop k rs ≡ r ∷ drop (k + 1) rs = drop_more rs k r (slice_get_within rs k r here) ∙ ap (λ (x : Region). x ∷ drop (k + 1) rs) (get_or_from_slice_get rs k r r here) in
             let cut : rs ≡ take k rs ++ r ∷ drop (k + 1) rs = sym (take-append-drop k rs) ∙ ap (λ (x : List Region). take k rs ++ x) behind in

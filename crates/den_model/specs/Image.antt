@@ -32,16 +32,16 @@ head_of family = record { family = family; part = Head }
 abbrev pub slot_of : Family → Files → Place
 slot_of family files = record { family = family; part = named (files (head_of family)) }
 
--- the last hard state, or the place of the first payload that is no word
+-- the last hard state, or the offset of the first payload that is no word
 unfoldable pub hard_state_from : Option HardState → List Region → Result (Option HardState) ℕ
 hard_state_from last [] = Ok last
-hard_state_from last (r ∷ rs) = elim (hard_state_in r.payload) [ None ↦ Err r.place | Some h ↦ hard_state_from (Some h) rs ]
+hard_state_from last (r ∷ rs) = elim (hard_state_in r.payload) [ None ↦ Err r.offset | Some h ↦ hard_state_from (Some h) rs ]
 
--- ---- what each family gives, or the place at which it is unreadable, or else unlawful
+-- ---- what each family gives, or the offset at which it is unreadable, or else unlawful
 
 abbrev pub meaning_of : {A : Type 0} → (List Region → Result A ℕ) → Result (List Region) ℕ → Result A ℕ
 meaning_of meaning (Ok rs) = meaning rs
-meaning_of meaning (Err place) = Err place
+meaning_of meaning (Err offset) = Err offset
 
 abbrev pub in_regions : {A : Type 0} → Family → (List Region → Result A ℕ) → Files → Result A ℕ
 in_regions family meaning files = meaning_of meaning (regions (files (slot_of family files)))
@@ -79,7 +79,7 @@ durable l h s =
 
 abbrev pub ok : {A : Type 0} → Result A ℕ → Option A
 ok (Ok x) = Some x
-ok (Err place) = None
+ok (Err offset) = None
 
 -- what log, hard state and map stand for together
 abbrev pub joined : Option Log → Option (Option HardState) → Option MapState → Option Durable
@@ -94,7 +94,7 @@ durable_in files = joined (ok (log_in files)) (ok (hard_state_held files)) (ok (
 abbrev pub StandsFor : Files → Durable → Type 0
 StandsFor files d = durable_in files ≡ Some d
 
--- where files are corrupt: the number of the file, and the place in it
+-- where files are corrupt: the number of the file, and the offset in it
 pub record Corruption : Type 0 where
   pub place : ℕ
   pub offset : ℕ

@@ -27,7 +27,7 @@ regions_size (r ∷ rs) = 9 + length r.payload + regions_size rs
 
 abbrev pub found_size : Result (List Region) ℕ → ℕ
 found_size (Ok rs) = regions_size rs
-found_size (Err place) = 0
+found_size (Err offset) = 0
 
 -- the regions in the slot that the family's head names
 abbrev pub family_size : Family → Files → ℕ

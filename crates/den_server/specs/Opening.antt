@@ -22,8 +22,8 @@ use Rattle.den_core.specs.Opening.{refusal_for}
 -- whether a key has an expiry, or an entry above the map's mark a time to live
 abbrev pub lease_asked : Result Log ℕ → Result MapState ℕ → Bool
 lease_asked (Ok l) (Ok s) = has_expiry s || asks_lease (above s.mark.index l.entries)
-lease_asked (Ok l) (Err place) = false
-lease_asked (Err place) s = false
+lease_asked (Ok l) (Err offset) = false
+lease_asked (Err offset) s = false
 
 -- Why files are refused, if they are: they stand for nothing, and where; then a lease is asked for, and none is
 -- configured; then no term or no index is left.

@@ -20,8 +20,8 @@ pub stored_fold : Folds stored_after stored_from
 unfolding stored_from
 stored_fold = record {
   stays = λ s. refl;
-  goes_on = λ s n r rs is. ap (λ (o : Option Stored). elim o [ None ↦ Err r.place | Some m ↦ stored_from m rs ]) is;
-  stops = λ s r rs is. ap (λ (o : Option Stored). elim o [ None ↦ Err r.place | Some m ↦ stored_from m rs ]) is;
+  goes_on = λ s n r rs is. ap (λ (o : Option Stored). elim o [ None ↦ Err r.offset | Some m ↦ stored_from m rs ]) is;
+  stops = λ s r rs is. ap (λ (o : Option Stored). elim o [ None ↦ Err r.offset | Some m ↦ stored_from m rs ]) is;
 }
 
 -- what one payload gives
@@ -60,15 +60,15 @@ stored_rises r = omega arith
 
 abbrev pub map_of : Result Stored ℕ → Result MapState ℕ
 map_of (Ok s) = Ok s.map
-map_of (Err place) = Err place
+map_of (Err offset) = Err offset
 
-map_stops : (m : MapState) (r : Region) (rs : List Region) → map_after_payload m r.payload ≡ None → map_from m (r ∷ rs) ≡ Err r.place
+map_stops : (m : MapState) (r : Region) (rs : List Region) → map_after_payload m r.payload ≡ None → map_from m (r ∷ rs) ≡ Err r.offset
 unfolding map_from
-map_stops m r rs is = ap (λ (o : Option MapState). elim o [ None ↦ Err r.place | Some n ↦ map_from n rs ]) is
+map_stops m r rs is = ap (λ (o : Option MapState). elim o [ None ↦ Err r.offset | Some n ↦ map_from n rs ]) is
 
 map_goes_on : (m next : MapState) (r : Region) (rs : List Region) → map_after_payload m r.payload ≡ Some next → map_from m (r ∷ rs) ≡ map_from next rs
 unfolding map_from
-map_goes_on m next r rs is = ap (λ (o : Option MapState). elim o [ None ↦ Err r.place | Some n ↦ map_from n rs ]) is
+map_goes_on m next r rs is = ap (λ (o : Option MapState). elim o [ None ↦ Err r.offset | Some n ↦ map_from n rs ]) is
 
 map_step : (s : Stored) (r : Region) (rs : List Region) → ((n : Stored) → map_from n.map rs ≡ map_of (stored_from n rs)) → (o : Option MapState) → map_after_payload s.map r.payload ≡ o → map_from s.map (r ∷ rs) ≡ map_of (stored_from s (r ∷ rs))
 map_step s r rs rest None is = map_stops s.map r rs is ∙ sym (ap map_of (stored_fold.stops s r rs (after_unlawful s r.payload is)))
@@ -83,14 +83,14 @@ map_of_stored s (r ∷ rs) = map_step s r rs (λ n. map_of_stored n rs) (map_aft
 
 meaning_is : (found : Result (List Region) ℕ) → meaning_of (map_from empty_map) found ≡ map_of (meaning_of (stored_from nothing_stored) found)
 meaning_is (Ok rs) = map_of_stored nothing_stored rs
-meaning_is (Err place) = refl
+meaning_is (Err offset) = refl
 
 pub files_map : (files : Files) → map_in files ≡ map_of (in_regions family.State (stored_from nothing_stored) files)
 files_map files = meaning_is (regions (files (slot_of family.State files)))
 
 held_is : (found : Result Stored ℕ) (s : Stored) → ok found ≡ Some s → ok (map_of found) ≡ Some s.map
 held_is (Ok x) s is = ap (λ (o : Option Stored). elim o [ None ↦ None | Some y ↦ Some y.map ]) is
-held_is (Err place) s is = absurd (cc is)
+held_is (Err offset) s is = absurd (cc is)
 
 -- files that give it give its map
 pub held_map : (files : Files) (s : Stored) → held_in family.State (stored_from nothing_stored) files ≡ Some s → ok (map_in files) ≡ Some s.map

@@ -19,10 +19,10 @@ nothing_stored = record { map = empty_map; tail = 0 }
 unfoldable pub stored_after : Stored → List ℕ → Option Stored
 stored_after s payload = elim (map_after_payload s.map payload) [ None ↦ None | Some m ↦ Some (record { map = m; tail = tail_after_payload s.tail payload }) ]
 
--- after these regions, or the place of the first that is not lawful
+-- after these regions, or the offset of the first that is not lawful
 unfoldable pub stored_from : Stored → List Region → Result Stored ℕ
 stored_from s [] = Ok s
-stored_from s (r ∷ rs) = elim (stored_after s r.payload) [ None ↦ Err r.place | Some n ↦ stored_from n rs ]
+stored_from s (r ∷ rs) = elim (stored_after s r.payload) [ None ↦ Err r.offset | Some n ↦ stored_from n rs ]
 
 -- what a lawful region gives, and the same map where it is not
 abbrev pub map_by : MapState → Option MapState → MapState

@@ -25,8 +25,8 @@ pub logs_fold : Folds log_after_payload log_from
 unfolding log_from
 logs_fold = record {
   stays = λ l. refl;
-  goes_on = λ l m r rs is. ap (λ (o : Option Log). elim o [ None ↦ Err r.place | Some n ↦ log_from n rs ]) is;
-  stops = λ l r rs is. ap (λ (o : Option Log). elim o [ None ↦ Err r.place | Some n ↦ log_from n rs ]) is;
+  goes_on = λ l m r rs is. ap (λ (o : Option Log). elim o [ None ↦ Err r.offset | Some n ↦ log_from n rs ]) is;
+  stops = λ l r rs is. ap (λ (o : Option Log). elim o [ None ↦ Err r.offset | Some n ↦ log_from n rs ]) is;
 }
 
 pub after_region : (l : Log) (p : List ℕ) (r : LogRegion) → log_region_in p ≡ Some r → is_lawful l r ≡ true → log_after_payload l p ≡ Some (changed l r)
@@ -66,14 +66,14 @@ log_rises Reset = omega arith
 
 -- what is read of one payload, and what is made of the rest
 state_next : (r : Region) (rs : List Region) → Option (Option HardState) → Result (Option HardState) ℕ
-state_next r rs None = Err r.place
+state_next r rs None = Err r.offset
 state_next r rs (Some g) = hard_state_from g rs
 
 state_step : (h : Option HardState) (r : Region) (rs : List Region) → hard_state_from h (r ∷ rs) ≡ state_next r rs (state_after h r.payload)
 unfolding hard_state_from state_after state_next
 state_step h r rs =
     elim (hard_state_in r.payload) as (λ (o : Option HardState).
-    ◌≡◌ {A = Result (Option HardState) ℕ} (elim o [ None ↦ Err r.place | Some g ↦ hard_state_from (Some g) rs ]) (state_next r rs (elim o [ None ↦ None | Some x ↦ Some (Some x) ]))) [
+    ◌≡◌ {A = Result (Option HardState) ℕ} (elim o [ None ↦ Err r.offset | Some g ↦ hard_state_from (Some g) rs ]) (state_next r rs (elim o [ None ↦ None | Some x ↦ Some (Some x) ]))) [
       | None ↦ refl
       | Some g ↦ refl
     ]

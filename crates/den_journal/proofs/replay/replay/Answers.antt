@@ -38,7 +38,7 @@ returns-then-not-branch-clause-refused g c = λ tells.
     let here = is_here reader gate now was c.in-Ok-Some.field-0 bytes (c.regions.invariant.stays tells).content_same c.regions.invariant.slot (c.in-Ok-Some.ensures.found tells1) in
     let some = subst (λ (o : Option ℕ). slice_get (placed 0 (payloads gate was.reading)) reader.given ≡ region_found o bytes) c.in-Ok-Some.field-0-is here in (
       refl,
-      stops F.after F.from g.met.F.Folded.folds F.empty (placed 0 (payloads gate was.reading)) reader.given v (c.regions.invariant.so_far tells) (record { place = c.in-Ok-Some.offset; payload = bytes }) some
+      stops F.after F.from g.met.F.Folded.folds F.empty (placed 0 (payloads gate was.reading)) reader.given v (c.regions.invariant.so_far tells) (record { offset = c.in-Ok-Some.offset; payload = bytes }) some
           (ap (F.after v) (sym c.as_slice.ensures.value) ∙ c.in_ok-take-in-Ok-Some.ensures.taken ∙ cond-false c.in_ok-take-in-Ok-Some.field-0 _ None c.if-not-branch.true),
     )
 
@@ -65,7 +65,7 @@ regions-preserved g c =
           let tells1 = subst (λ (k : Kind). IsTrue k.tells) (sym c.regions.invariant.kind) tells in
           let here = is_here reader gate now was c.in-Ok-Some.field-0 bytes (c.regions.invariant.stays tells).content_same c.regions.invariant.slot (c.in-Ok-Some.ensures.found tells1) in
           let some = subst (λ (o : Option ℕ). slice_get (placed 0 (payloads gate was.reading)) reader.given ≡ region_found o bytes) c.in-Ok-Some.field-0-is here in
-          let more = goes_on F.after F.from g.met.F.Folded.folds F.empty (placed 0 (payloads gate was.reading)) reader.given v (c.regions.invariant.so_far tells) (record { place = c.in-Ok-Some.offset; payload = bytes }) some
+          let more = goes_on F.after F.from g.met.F.Folded.folds F.empty (placed 0 (payloads gate was.reading)) reader.given v (c.regions.invariant.so_far tells) (record { offset = c.in-Ok-Some.offset; payload = bytes }) some
           (F.value c.take.new.self)
           (ap (F.after v) (sym c.as_slice.ensures.value) ∙ c.in_ok-take-in-Ok-Some.ensures.taken ∙ cond-true c.in_ok-take-in-Ok-Some.field-0 _ None c.if-not-branch.false) in
           subst (λ (n : ℕ). F.from F.empty (take n (placed 0 (payloads gate was.reading))) ≡ Ok (F.value c.take.new.self)) (sym on.2) more;
