@@ -63,7 +63,7 @@ wrote_pending caps front (Resize place len from was) rest l q k w lt = absurd w
 wrote_pending caps front Sync rest l q k w lt = absurd w
 
 -- the calls from one on, where the next is known
-drop_one : (steps : List Step) (n left : ℕ) (step : Step) → left ≡ n + 1 → n < length steps → step ≡ get_or steps n step → drop n steps ≡ step ∷ drop left steps
+pub drop_one : (steps : List Step) (n left : ℕ) (step : Step) → left ≡ n + 1 → n < length steps → step ≡ get_or steps n step → drop n steps ≡ step ∷ drop left steps
 drop_one steps n left step next lt is =
     let more : suc n ≡ left = omega arith in
     drop-cons steps n step lt ∙ (λ i. sym is i ∷ drop (more i) steps)

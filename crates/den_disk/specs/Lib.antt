@@ -1,3 +1,4 @@
+pub mod Calls
 pub mod Crash
 pub mod Families
 pub mod Files
@@ -7,3 +8,4 @@ pub mod Pieces
 pub mod Place
 pub mod Readings
 pub mod Spoil
+pub mod Unwritten

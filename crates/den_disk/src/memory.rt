@@ -3,9 +3,10 @@
 ghost use Rattle.std.specs.Prelude.{◌≡◌, ◌≤◌, ◌<◌, ◌+◌, ◌-◌, ◌*◌, ◌^◌, ◌++◌, [], ◌∷◌, min, true, take, drop, length, replicate, IsTrue, OnOk, OnErr, IsErr, Contains};
 ghost use Rattle.den_disk.specs.declared.place.Place.{Place};
 ghost use Rattle.den_disk.specs.Files.{IsImage, put_at, fit};
-ghost use Rattle.den_disk.specs.Memory.{content_now, images_at, images_end, calls_made, syncs_of};
+ghost use Rattle.den_disk.specs.Memory.{content_now, images_at, images_end, syncs_of};
 ghost use Rattle.den_disk.specs.Crash.{Stays};
 ghost use Rattle.den_disk.specs.Goes.{HasCause, Rose};
+ghost use Rattle.den_disk.specs.Unwritten.{IsRecord, unwritten};
 
 use crate::faults::count_fault;
 use crate::spoil::spoil;
@@ -39,6 +40,7 @@ pub struct MemDisk {
     steps: Vec<Step>,
     faults: u64,
     plan: Plan,
+    ghost recorded: { ∥ IsRecord files steps.items ∥₁ },
 }
 
 // Which calls are to fail, and how many were made.
@@ -51,6 +53,8 @@ struct Plan {
 }
 
 impl MemDisk {
+    ghost use Rattle.den_disk.specs.Calls.{calls_made};
+
     /// A disk of twelve empty files.
     pub fn new(alloc: Global) -> Self
         ensures empty { (q : Place) → (⟦<MemDisk as Disk>⟧.content result).reading q ≡ [] }
@@ -98,8 +102,8 @@ impl MemDisk {
     {
         let file = bytes.to_vec(self.alloc)?;
         let number = place.number();
-        self.files[number] = file;
         self.steps.clear();
+        self.files[number] = file;
         Ok(())
     }
 
@@ -130,10 +134,12 @@ impl MemDisk {
         self.plan.failing = calls;
     }
 
-    /// Makes the disk what a crash leaves of it, with no more faults to come. Choice 0 takes back each write since the last sync, 1
-    /// keeps all, and any other puts numbers drawn from it into what they wrote. The record is then empty.
+    /// Makes the disk what a crash leaves of it, with no more faults to come. Choice 0 takes back each write since the
+    /// last sync, and no resize. 1 keeps all, and any other puts numbers drawn from it where bytes are pending. The record
+    /// is then empty.
     pub fn crash(&mut self, choice: u64)
         ensures image { IsImage (⟦<MemDisk as Disk>⟧.content self.old) (⟦<MemDisk as Disk>⟧.content self.new).reading }
+        ensures dropped { choice ≡ 0 → (q : Place) → (⟦<MemDisk as Disk>⟧.content self.new).reading q ≡ unwritten self.old.steps.items q ((⟦<MemDisk as Disk>⟧.content self.old).reading q) }
         ensures kept { choice ≡ 1 → (q : Place) → (⟦<MemDisk as Disk>⟧.content self.new).reading q ≡ (⟦<MemDisk as Disk>⟧.content self.old).reading q }
         ensures pending { (⟦<MemDisk as Disk>⟧.content self.new).pending ≡ [] }
         ensures moment { ⟦<MemDisk as Disk>⟧.moment self.new ≡ 0 }

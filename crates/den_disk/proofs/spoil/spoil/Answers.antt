@@ -1,4 +1,5 @@
 use Rattle.std.proofs.Common.{◌≡◌, ◌<◌, ◌+◌, ◌-◌, length, arith}
+use Rattle.den_disk.proofs.Dropped.{caps_down, dropped_more}
 use Rattle.den_disk.proofs.Spoilt.{lasts_down, spoilt_more}
 use Rattle.den_disk.proofs.spoil.spoil.Goals as goal
 
@@ -14,4 +15,6 @@ loop-left-preserved c =
       twelve = c.spoil_step.array_long;
       spoilt = spoilt_more c.loop-left.caps steps _ c.loop-left.left c.index-steps-left.result _ _ _ next lt is before.lasts c.spoil_step.ensures.spoils before.spoilt;
       lasts = lasts_down c.loop-left.caps _ steps _ c.loop-left.left c.index-steps-left.result next lt is before.twelve c.spoil_step.ensures.caps before.lasts;
+      caps = caps_down c.loop-left.caps _ steps _ c.loop-left.left c.index-steps-left.result next lt is before.twelve c.spoil_step.ensures.caps before.caps;
+      dropped = λ zero. dropped_more c.loop-left.caps steps _ c.loop-left.left c.index-steps-left.result c.args.files.now _ _ next lt is before.caps (c.spoil_step.ensures.dropped zero) (λ q. (before.spoilt q).as_long) (before.dropped zero);
     }
