@@ -2,12 +2,14 @@
 """Measures what the gate costs: processor minutes by crate, for its proof, its tests and its must-fail edits.
 
 Each part starts from nothing, in a scratch copy of the repository as it stands, in turn and with one job, as the processes
-below it count their time. The tests' part proves the crate and its tests, as the gate does; the edits' part tries each file of
-must-fail/ in turn. Numbers hold for the machine that they are taken on, and rise where other work shares its processors.
+below it count their time. The tests' part proves the crate once more, with its tests, and runs them; the edits' part proves it a
+third time and tries each file of must-fail/ over that: so does the gate. The libraries below a crate are taken as earlier checks
+on this machine left them. Numbers hold for the machine that they are taken on, and rise where other work shares its processors.
 
 It is run by hand, takes as many minutes as it prints, and needs `rt` on the path. A table row is printed as soon as it is there.
 """
 import argparse
+import contextlib
 import glob
 import os
 import shutil
@@ -22,12 +24,15 @@ PARTS = ("proof", "tests", "edits")
 
 
 def minutes(words, folder, log):
-    """The processor minutes of a command and of all below it."""
+    """The processor minutes of a command and of all below it. One that fails is told, and counts."""
+    begin = log.tell()
     started = subprocess.Popen(words, cwd=folder, stdin=subprocess.DEVNULL, stdout=log, stderr=log)
     _, status, used = os.wait4(started.pid, 0)
     started.returncode = os.waitstatus_to_exitcode(status)
     if started.returncode:
-        sys.exit(f"gate_cost: {' '.join(words)} in {folder} ended with {started.returncode}; its output is in {log.name}")
+        log.seek(begin)
+        print(f"gate_cost: {' '.join(words)} in {folder} ended with {started.returncode}:\n{log.read()[-2000:]}", file=sys.stderr)
+    log.seek(0, os.SEEK_END)
     return (used.ru_utime + used.ru_stime) / 60
 
 
@@ -36,35 +41,47 @@ def has_tests(folder):
     return any("#[test]" in open(file, encoding="utf-8").read() for file in files)
 
 
-def forget(folder, part):
-    shutil.rmtree(os.path.join(folder, "out", part), ignore_errors=True)
+@contextlib.contextmanager
+def anew(folder):
+    """Has the crate's next check begin with nothing: `rt` takes what a check kept, in any copy on this machine, by the crate's
+    text, so the text has a line that no other has, and the kept work of this copy is none."""
+    root = next(it for it in (f"{folder}/src/main.rt", f"{folder}/src/lib.rt") if os.path.isfile(it))
+    kept = os.path.join(folder, "out", "incremental")
+    with open(root, encoding="utf-8") as file:
+        text = file.read()
+    shutil.rmtree(kept, ignore_errors=True)
+    os.makedirs(kept)
+    with open(root, "w", encoding="utf-8") as file:
+        file.write(f"{text}\n// Measured in {folder} at {time.time_ns()}.\n")
+    try:
+        yield
+    finally:
+        with open(root, "w", encoding="utf-8") as file:
+            file.write(text)
+        shutil.rmtree(kept, ignore_errors=True)
 
 
 def proof(room, name, log):
-    """The crate's own proof. What it keeps for later checks is removed; its library stays for the crates above."""
+    """The crate's own proof."""
     folder = os.path.join(room, "crates", name)
-    is_program = os.path.isfile(f"{folder}/src/main.rt")
-    forget(folder, "incremental")
-    forget(folder, "rlib")
-    cost = minutes(["rt", "check" if is_program else "lib", "--jobs", "1"], folder, log)
-    forget(folder, "incremental")
-    return cost
+    with anew(folder):
+        return minutes(["rt", "check", "--jobs", "1"], folder, log)
 
 
 def tests(room, name, log):
-    """The proof of the crate with its tests."""
+    """The proof of the crate with its tests, and their run."""
     folder = os.path.join(room, "crates", name)
     if not has_tests(folder):
         return 0.0
-    forget(folder, "incremental")
-    cost = minutes(["rt", "check", "--test", "--jobs", "1"], folder, log)
-    forget(folder, "incremental")
-    return cost
+    with anew(folder):
+        return minutes(["rt", "test", "--jobs", "1"], folder, log)
 
 
 def edits(room, name, log):
-    """The tries of the crate's must-fail edits."""
-    return minutes(["rt", "must-fail", name], room, log)
+    """A proof of the crate, and the tries of its must-fail edits over it."""
+    if not glob.glob(f"{room}/crates/{name}/must-fail/*.edit"):
+        return 0.0
+    return minutes(["rt", "must-fail", "--anew", name], room, log)
 
 
 def row(name, costs):
@@ -93,9 +110,8 @@ def options():
 def main():
     asked = options()
     names = scratch.chosen(asked.names)
-    below = [name for name in scratch.crates() if name not in names or "proof" not in asked.parts]
     sums, started = [0.0] * len(PARTS), time.monotonic()
-    with scratch.copied(below, asked.room) as room, open(os.path.join(room, "gate_cost.log"), "a") as log:
+    with scratch.copied(scratch.below(names), asked.room) as room, open(os.path.join(room, "gate_cost.log"), "a+") as log:
         print("| Crate | Proof | Tests | Edits | Sum |\n|---|---|---|---|---|", flush=True)
         for name in names:
             scratch.prove_below(room, [name])
