@@ -85,26 +85,3 @@ impl Clock for ListClock {
         reading
     }
 }
-
-#[cfg(test)]
-mod tests {
-    use super::*;
-    use std::test::Fail;
-
-    #[test]
-    fn gives_its_readings(rt: HostRuntime) -> Result<(), Fail> {
-        let mut clock = ListClock::new([5, 0, 7].to_vec(rt.alloc())?);
-        for reading in [5, 0, 7, 7, 7] {
-            assert_eq!(rt; clock.now(), reading);
-        }
-        let mut clock = ListClock::new(Vec::new(rt.alloc()));
-        for reading in [1, 1] {
-            assert_eq!(rt; clock.now(), reading);
-        }
-        let mut clock = ListClock::steps(u64::MAX - 3, 2);
-        for reading in [u64::MAX - 3, u64::MAX - 1, u64::MAX, u64::MAX] {
-            assert_eq!(rt; clock.now(), reading);
-        }
-        Ok(())
-    }
-}

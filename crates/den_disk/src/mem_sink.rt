@@ -72,18 +72,3 @@ impl Sink for MemSink {
         Ok(())
     }
 }
-
-#[cfg(test)]
-mod tests {
-    use super::*;
-
-    #[test]
-    fn writes_what_fits(rt: HostRuntime) {
-        let mut sink = MemSink::new(rt.alloc());
-        assert_eq!(rt; sink.write(b"ab"), Ok(()));
-        sink.fail_after(3);
-        assert_eq!(rt; sink.write(b"cd"), Err(SinkFault));
-        assert_eq!(rt; sink.bytes(), b"abc".as_slice());
-        assert_eq!(rt; sink.faults, 1);
-    }
-}

@@ -60,26 +60,3 @@ impl Source for MemSource {
         Ok(Piece::Got(n))
     }
 }
-
-#[cfg(test)]
-mod tests {
-    use super::*;
-    use std::test::Fail;
-
-    #[test]
-    fn reads_to_the_end_or_to_a_fault(rt: HostRuntime) -> Result<(), Fail> {
-        let mut buffer = [0; 2];
-        let mut source = MemSource::new(b"abc".to_vec(rt.alloc())?);
-        assert_eq!(rt; source.read(&mut buffer), Ok(Piece::Got(2)));
-        assert_eq!(rt; buffer, *b"ab");
-        assert_eq!(rt; source.read(&mut buffer), Ok(Piece::Got(1)));
-        assert_eq!(rt; buffer, *b"cb");
-        assert_eq!(rt; source.read(&mut buffer), Ok(Piece::End));
-        let mut source = MemSource::new(b"abc".to_vec(rt.alloc())?);
-        source.fail_after(1);
-        assert_eq!(rt; source.read(&mut buffer), Ok(Piece::Got(1)));
-        assert_eq!(rt; source.read(&mut buffer), Err(SourceFault));
-        assert_eq!(rt; source.faults, 1);
-        Ok(())
-    }
-}
