@@ -23,13 +23,6 @@ file_short (v ∷ vs) (suc n) = file_short vs n
 pub record Caps (caps : List ℕ) (rest : List Step) : Type 0 where
   pub each : (q : Place) (k : ℕ) → k < 2 ^ 64 - 1 → stays_pending rest q k ≡ nat_lt k (get_or caps (place_number q) 0)
 
-pub caps_start : (caps : List ℕ) (rest : List Step) → rest ≡ [] → caps ≡ replicate 12 (2 ^ 64 - 1) → Caps caps rest
-caps_start caps rest none all = record {
-  each = λ q k lt.
-      let cap : get_or caps (place_number q) 0 ≡ 2 ^ 64 - 1 = ap (λ (l : List ℕ). get_or l (place_number q) 0) all ∙ get_or-replicate {A = ℕ} 12 (place_number q) (2 ^ 64 - 1) 0 (place_small q) in
-      ap (λ (r : List Step). stays_pending r q k) none ∙ sym (ap (nat_lt k) cap ∙ lt-ltb k (2 ^ 64 - 1) lt);
-}
-
 below_both : (k a b : ℕ) → (nat_lt k b && nat_lt k a) ≡ nat_lt k (min a b)
 below_both k a b = elim (cases_Bool (nat_lt k b)) [
   | inl t ↦ elim (cases_Bool (nat_lt k a)) [

@@ -17,9 +17,6 @@ use Rattle.den_disk.proofs.Puts.{put_here, put_elsewhere}
 pub record Lasts (caps : List ℕ) (rest : List Step) : Type 0 where
   pub each : (q : Place) (pending : List Range) (k : ℕ) → IsPending pending q k → k < get_or caps (place_number q) 0 → IsPending (pend_all pending rest) q k
 
-pub lasts_start : (caps : List ℕ) (rest : List Step) → rest ≡ [] → Lasts caps rest
-lasts_start caps rest none = record { each = λ q pending k h lt. subst (λ r. IsPending (pend_all pending r) q k) (sym none) h }
-
 cut_by : (place q : Place) (len k : ℕ) (r : Range) (b : Bool) → is_place r.place place ≡ b → (q ≡ place → k < len) → InRange r q k
     → InRange (if b then record { place = r.place; from = min r.from len; to = min r.to len } else r) q k
 cut_by place q len k r true e small h =
