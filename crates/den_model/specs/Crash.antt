@@ -61,12 +61,16 @@ pub record IsDone (left : List ℕ) (readings frames : ℕ) (sent : List (ℕ ×
   pub one_each : readings ≡ frames
   pub whole : IsWhole sent kv log steps new new_log
 
--- At Ok of a whole run: a reading at opening and one for each frame, exactly the output, and its end on the disk, with the
--- entry of each step in the log.
-pub record IsServed (holds : Files → Option Durable) (logs : Files → Option Log) (images : ℕ → Files → Type 0) (to : ℕ) (left : List ℕ) (readings frames : ℕ)
-    (sent : List (ℕ × ℕ)) (kv : Kv) (log : Log) (steps : List Step) : Type 0 where
+-- At Ok of a whole run: the input was read to its end, a reading was taken at opening and one for each frame, and exactly the
+-- output was sent.
+pub record IsAnswered (left : List ℕ) (readings frames : ℕ) (sent : List (ℕ × ℕ)) (kv : Kv) (steps : List Step) : Type 0 where
   pub at_end : left ≡ []
   pub one_each : readings ≡ frames + 1
   pub output_sent : bytes_of sent ≡ output kv steps
+
+-- And its end is on the disk, with the entry of each step in the log.
+pub record IsServed (holds : Files → Option Durable) (logs : Files → Option Log) (images : ℕ → Files → Type 0) (to : ℕ) (left : List ℕ) (readings frames : ℕ)
+    (sent : List (ℕ × ℕ)) (kv : Kv) (log : Log) (steps : List Step) : Type 0 where
+  pub answered : IsAnswered left readings frames sent kv steps
   pub end_stands : Stands holds images to (after kv steps).durable
   pub log_stands : GivesLog logs images to kv log steps

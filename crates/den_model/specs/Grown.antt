@@ -1,25 +1,28 @@
--- What the log is after entries joined it.
-use Rattle.std.specs.Prelude.{◌≡◌, ℕ, ◌≤◌, List, [], ◌∷◌, max}
-use Rattle.den_model.specs.declared.region.LogRegion.TheVariants.{Append}
+-- What the log is after steps.
+use Rattle.std.specs.Prelude.{◌≡◌, ◌⊎◌, ℕ, ◌<◌, ◌≤◌, List, [], ◌∷◌}
+use Rattle.std.specs.List.{All}
+use Rattle.den_model.specs.declared.log_id.LogId.{LogId}
+use Rattle.den_model.specs.declared.region.LogRegion.TheVariants.{Append, Purge}
 use Rattle.den_model.specs.Entries.{LogEntry}
 use Rattle.den_model.specs.Kv.{Kv}
-use Rattle.den_model.specs.Log.{Log, floor, above, changed}
-use Rattle.den_model.specs.Plan.{after, logged}
-use Rattle.den_model.specs.Step.{Step}
+use Rattle.den_model.specs.Log.{Log, floor, changed}
+use Rattle.den_model.specs.Step.{Step, step}
 
 -- the log with these entries appended, one after the other
 abbrev pub appended : Log → List LogEntry → Log
 appended l [] = l
 appended l (e ∷ es) = appended (changed l (Append (e ∷ []))) es
 
--- Entries joined the old log, and entries up to a mark may have been purged: above its boundary the new log holds exactly
--- what the old one with those entries appended holds there. The boundary is the old one where its index has not risen.
-pub record IsGrownBy (old : Log) (entries : List LogEntry) (mark : ℕ) (new : Log) : Type 0 where
-  pub holds : above (floor new) new.entries ≡ above (floor new) (appended old entries).entries
-  pub rises : floor old ≤ floor new
-  pub purged : floor new ≤ max (floor old) mark
-  pub unpurged : floor new ≡ floor old → new.boundary ≡ old.boundary
+-- the id's term is that of the entry of its index, where the log has one
+abbrev pub HasTermOf : Log → LogId → Type 0
+HasTermOf l id = All (λ (e : LogEntry). e.index ≡ id.index → e.term ≡ id.term) l.entries
 
--- The log after these steps: their entries joined it, and none above the last one that was applied was purged.
+-- the same log, or that log with the entries up to an id purged, which is above the boundary and at most this index
+abbrev pub IsPurgedUpTo : ℕ → Log → Log → Type 0
+IsPurgedUpTo most old new = (new ≡ old) ⊎ ((id : LogId) × (floor old < id.index) × (id.index ≤ most) × HasTermOf old id × (new ≡ changed old (Purge id.index id.term)))
+
+-- The log after these steps: the entries of each joined it. Before each step and behind the last one, entries up to the last
+-- that was applied by then may have been purged.
 abbrev pub IsLogAfter : Log → Kv → List Step → Log → Type 0
-IsLogAfter old s steps new = IsGrownBy old (logged s steps) (after s steps).durable.last_index new
+IsLogAfter old s [] new = IsPurgedUpTo s.durable.last_index old new
+IsLogAfter old s (x ∷ xs) new = (between : Log) × IsPurgedUpTo s.durable.last_index old between × IsLogAfter (appended between (step s x).logged) (step s x).after xs new
