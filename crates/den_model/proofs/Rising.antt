@@ -2,7 +2,7 @@
 use Rattle.std.proofs.Common.{◌≡◌, ℕ, suc, ◌+◌, ◌-◌, ◌≤◌, Bool, true, List, [], ◌∷◌, length, get_or, take, drop, refl, ap, ◌∙◌, arith}
 use Rattle.std.proofs.Math.Seq.{take-length}
 use Rattle.std.specs.Prelude.{nat_lt, nat_le}
-use Rattle.std.proofs.lemmas.Bool.{le-leb, leb-true, and_from, and_parts}
+use Rattle.std.proofs.lemmas.Bool.{le-leb}
 use Rattle.den_model.specs.Entries.{LogEntry, rise_above, rise_from}
 
 above_from : (i n : ℕ) → nat_lt i n ≡ nat_le (i + 1) n
@@ -23,10 +23,3 @@ from_first index (e ∷ es) first at at' b some is here le there so =
     let n : length (e ∷ es) - 1 ≡ length es = omega arith in rw n (take-length es) in
     let fine : nat_le index e.index ≡ true = le-leb index e.index (omega arith) in
     so ∙ ap (rise_above at') whole ∙ rw (fine, ← above_is_from e.index es, ← same, there) refl
-
--- what rises from an index on rises from any lower one on
-pub rise_lower : (i j : ℕ) (es : List LogEntry) → i ≤ j → rise_from j es ≡ true → rise_from i es ≡ true
-rise_lower i j [] le h = refl
-rise_lower i j (e ∷ es) le h =
-    let t = and_parts (nat_le j e.index) (rise_from (e.index + 1) es) h in
-    and_from _ _ (le-leb i e.index (let at : j ≤ e.index = leb-true j e.index t.0 in omega arith)) t.1

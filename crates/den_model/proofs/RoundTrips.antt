@@ -3,18 +3,13 @@ use Rattle.std.proofs.Common.{◌≡◌, Some, refl}
 use Rattle.den_model.specs.declared.log_id.HardState.{HardState}
 use Rattle.den_model.specs.declared.region.LogRegion.{LogRegion}
 use Rattle.den_model.specs.declared.region.StateRegion.{StateRegion}
-use Rattle.den_model.specs.Entries.{LogEntry}
-use Rattle.den_model.specs.Spelling.{entry_word, log_region_word, hard_state_word, state_region_word}
-use Rattle.den_model.specs.Words.{FitsEntry, FitsLogRegion, FitsHardState, FitsStateRegion}
-use Rattle.den_model.specs.Reading.{entry_in, log_region_in, hard_state_in, state_region_in}
+use Rattle.den_model.specs.Spelling.{log_region_word, hard_state_word, state_region_word}
+use Rattle.den_model.specs.Words.{FitsLogRegion, FitsHardState, FitsStateRegion}
+use Rattle.den_model.specs.Reading.{log_region_in, hard_state_in, state_region_in}
 use Rattle.den_model.proofs.Spells.{word_again}
-use Rattle.den_model.proofs.LogSpells.{spells_entry, spells_hard_state}
+use Rattle.den_model.proofs.LogSpells.{spells_hard_state}
 use Rattle.den_model.proofs.RegionSpells.{spells_log_region}
 use Rattle.den_model.proofs.StateSpells.{spells_state_region}
-
-pub entry_again : (e : LogEntry) → FitsEntry e → entry_in (entry_word e) ≡ Some e
-unfolding entry_in
-entry_again e h = word_again spells_entry (entry_word e) e (refl, h)
 
 pub hard_state_again : (h : HardState) → FitsHardState h → hard_state_in (hard_state_word h) ≡ Some h
 unfolding hard_state_in
