@@ -1,10 +1,10 @@
 -- What a family's files come to in bytes, and that a disk is told to be full only of what it was given.
-use Rattle.std.proofs.Common.{◌≡◌, ℕ, ◌+◌, ◌*◌, ◌^◌, ◌<◌, ◌≤◌, List, [], ◌∷◌, length, Option, refl, sym, ap, subst, arith}
+use Rattle.std.proofs.Common.{◌≡◌, ℕ, ◌+◌, ◌*◌, ◌^◌, ◌<◌, ◌≤◌, List, [], ◌∷◌, length, refl, sym, ap, subst, arith}
 use Rattle.den_disk.specs.declared.place.Family.{Family}
 use Rattle.den_disk.specs.declared.place.Place.{Place}
-use Rattle.den_disk.specs.Files.{Files, Content}
+use Rattle.den_disk.specs.Files.{Content}
 use Rattle.den_disk.specs.Families.{SparesAll}
-use Rattle.den_model.specs.Regions.{open_regions, placed}
+use Rattle.den_model.specs.Regions.{placed}
 use Rattle.den_model.specs.Image.{slot_of}
 use Rattle.den_model.specs.Sizes.{regions_size, found_size, family_size}
 use Rattle.den_gate.specs.declared.error.GateError.{GateError}
@@ -16,7 +16,7 @@ use Rattle.den_gate.specs.Gate.{IsCurrent}
 use Rattle.den_gate.specs.Slot.{IsShort, room_for}
 use Rattle.den_disk.specs.declared.disk.Disk.{Ghosts}
 use Rattle.den_codec.specs.declared.error.Error.TheVariants.{StorageIoError}
-use Rattle.den_journal.specs.Shown.{Change, Shown}
+use Rattle.den_journal.specs.Shown.{Change, Held, Shown}
 use Rattle.den_journal.specs.Writes.{Faulted, IsRefused, Tells}
 use Rattle.den_journal.specs.Folding.{end_from}
 use Rattle.den_journal.specs.Opening.{IsLoaded}
@@ -41,7 +41,7 @@ full_of : (end size needed limit weight : ℕ) → needed ≡ room_for end size 
 full_of end size needed limit weight is over least within = omega arith
 
 -- what the disk refused of an append
-pub refused_by : {D V : Type 0} (disk : Ghosts D) (was now : Shown V) (old new : D) (family : Family) (holds : Files → Option V) (change : Change V) (full : ℕ → ℕ → Type 0) (e : GateError) → (now.ready → ⊥) → now.value ≡ was.value → change.size ≤ change.rise
+pub refused_by : {D V : Type 0} (disk : Ghosts D) (was now : Shown V) (old new : D) (family : Family) (holds : Held V) (change : Change V) (full : ℕ → ℕ → Type 0) (e : GateError) → (now.ready → ⊥) → now.value ≡ was.value → change.size ≤ change.rise
     → ((needed limit : ℕ) → full needed limit → (needed ≡ room_for was.weight change.size) × (limit ≡ (disk.kind old).limit) × (limit < needed) × (2 ^ 43 ≤ limit)
     × (Tells disk old → IsShort ((disk.content old).reading (slot_of family (disk.content old).reading)) was.weight change.size))
     → Because ⊥ (Faulted disk old new) full (λ part offset. ⊥) e → IsRefused disk was now old new family holds change (refusal family e)

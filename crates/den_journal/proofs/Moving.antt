@@ -1,24 +1,22 @@
 -- What a call of a store leaves at each of its exits.
-use Rattle.std.proofs.Common.{◌≡◌, inl, inr, ℕ, ◌+◌, ◌≤◌, IsTrue, List, [], ◌∷◌, ◌++◌, Option, Some, Result, Ok, Err, refl, sym, ap, ◌∙◌, subst, arith}
-use Rattle.std.specs.Prelude.{◌↔◌}
+use Rattle.std.proofs.Common.{◌≡◌, inl, inr, ℕ, ◌+◌, ◌≤◌, List, [], ◌∷◌, ◌++◌, Option, Some, Result, Ok, Err, refl, sym, ap, ◌∙◌, subst, arith}
 use Rattle.std.specs.Result.{IsErrAnd}
 use Rattle.std.proofs.Math.Nat.{le_refl}
 use Rattle.den_disk.specs.declared.disk.Disk.{Ghosts}
 use Rattle.den_disk.specs.declared.place.Family.{Family}
 use Rattle.den_disk.specs.declared.place.Place.{Place}
-use Rattle.den_disk.specs.Files.{Files, Content, IsImage}
-use Rattle.den_disk.specs.Goes.{DiskGoesOn, ImagesGoOn}
+use Rattle.den_disk.specs.Files.{Files}
 use Rattle.den_disk.specs.Families.{OldOrNew, SparesImages, SparesOthers, SparesAll, NoNewImages}
 use Rattle.den_model.specs.Regions.{Region, placed}
 use Rattle.den_model.specs.Image.{ok, slot_of}
 use Rattle.den_codec.specs.declared.error.Error.{Error}
 use Rattle.den_codec.specs.declared.error.Error.TheVariants.{OutOfMemory}
 use Rattle.den_codec.specs.Full.{IsHeavy}
-use Rattle.den_gate.specs.Gate.{HasList, KeepsOrAddsFamily}
+use Rattle.den_gate.specs.Gate.{KeepsOrAddsFamily}
 use Rattle.den_gate.proofs.Families.{has_meaning, adds_meaning}
 use Rattle.den_journal.specs.Causes.{IsFullFor, IsOfDisk, IsRefusal}
-use Rattle.den_journal.specs.Shown.{Change, IsOneOf, Shown, held_in}
-use Rattle.den_journal.specs.Writes.{GoesOn, Tells, Faulted, Moves, Becomes, Untouched, IsLost, IsRefused, Writes}
+use Rattle.den_journal.specs.Shown.{Change, Held, IsOneOf, Shown, held_in}
+use Rattle.den_journal.specs.Writes.{GoesOn, Tells, Faulted, Moves, IsLost, Writes}
 
 same_moment : (t u : ℕ) → t ≤ u → u ≤ t → u ≡ t
 same_moment t u low high = omega arith
@@ -30,31 +28,26 @@ pub first_of : {V : Type 0} (v : V) (vs : List V) (found : Option V) → found �
 first_of v [] found is = is
 first_of v (w ∷ vs) found is = inl is
 
-module _ {D V : Type 0} (disk : Ghosts D) (family : Family) (holds : Files → Option V) (v : V) (more : List V) where
+module _ {D V : Type 0} (disk : Ghosts D) (family : Family) (holds : Held V) (v : V) (more : List V) where
   -- what gets no new image leaves the old value
-  pub moves_not : (old new : D) → ((files : Files) → disk.images old (disk.moment old) files → holds files ≡ Some v)
+  pub moves_not : (old new : D) → (holds.told → (files : Files) → disk.images old (disk.moment old) files → holds.of files ≡ Some v)
       → NoNewImages (disk.images old) (disk.images new) (disk.moment old) (disk.moment new) → SparesAll (disk.content old) (disk.content new)
       → Moves disk family holds (v ∷ more) old new
   moves_not old new gives none spares = record {
-    own = λ t files low high i. first_of v more (holds files) (gives files (none.each t files low high i));
+    own = λ told t files low high i. first_of v more (holds.of files) (gives told files (none.each t files low high i));
     others = record { each = λ t files low high i. (files, none.each t files low high i, λ q ne. refl) };
     spares = record { reading = λ q ne. spares.reading q; pending = λ q ne k h. spares.pending q k h };
   }
 
   -- what is left as it was
-  pub moves_nothing : (d : D) → ((files : Files) → disk.images d (disk.moment d) files → holds files ≡ Some v) → Moves disk family holds (v ∷ more) d d
+  pub moves_nothing : (d : D) → (holds.told → (files : Files) → disk.images d (disk.moment d) files → holds.of files ≡ Some v) → Moves disk family holds (v ∷ more) d d
   moves_nothing d gives = moves_not d d gives (record { each = λ t files low high i. subst (λ k. disk.images d k files) (same_moment (disk.moment d) t low high) i })
       (record { reading = λ q. refl; pending = λ q k h. h })
 
--- a call that leaves one of two values
-pub old_or_new : {D V : Type 0} {disk : Ghosts D} {family : Family} {holds : Files → Option V} {v w : V} {old new : D} → Moves disk family holds (v ∷ w ∷ []) old new
-    → OldOrNew holds (disk.images new) (disk.moment old) (disk.moment new) v w
-old_or_new m = record { each = m.own }
-
--- each image of a disk that tells gives what its files hold
-pub gives_now : {D V : Type 0} (disk : Ghosts D) (holds : Files → Option V) (shown : Shown V) (d : D) → ((c : Content) (files : Files) → shown.rests c → IsImage c files → holds files ≡ Some shown.value)
-    → ((files : Files) → disk.images d (disk.moment d) files ↔ IsImage (disk.content d) files) → shown.rests (disk.content d) → (files : Files) → disk.images d (disk.moment d) files → holds files ≡ Some shown.value
-gives_now disk holds shown d hold now rests files i = hold (disk.content d) files rests ((now files).0 i)
+-- a call that leaves one of two values, of a store that tells what files give
+pub old_or_new : {D V : Type 0} {disk : Ghosts D} {family : Family} {holds : Held V} {v w : V} {old new : D} → holds.told → Moves disk family holds (v ∷ w ∷ []) old new
+    → OldOrNew holds.of (disk.images new) (disk.moment old) (disk.moment new) v w
+old_or_new told m = record { each = m.own told }
 
 -- ---- a call that adds a region
 
@@ -63,7 +56,7 @@ pub moves_by : {D V : Type 0} (disk : Ghosts D) (family : Family) (meaning : Lis
     → SparesImages slot.family (disk.images old) (disk.images new) (disk.moment old) (disk.moment new) → SparesOthers slot.family (disk.content old) (disk.content new)
     → Moves disk family (held_in family meaning) (v ∷ w ∷ []) old new
 moves_by disk family meaning slot list payload v w old new own was is adds others spares = record {
-  own = (adds_meaning (held_in family meaning) slot list payload (disk.images new) (disk.moment old) (disk.moment new) v w
+  own = λ told. (adds_meaning (held_in family meaning).of slot list payload (disk.images new) (disk.moment old) (disk.moment new) v w
       (λ files h. ap ok (has_meaning family meaning slot list files own h ∙ was))
       (λ files h. ap ok (has_meaning family meaning slot (list ++ payload ∷ []) files own h ∙ is)) adds).each;
   others = subst (λ (f : Family). SparesImages f (disk.images old) (disk.images new) (disk.moment old) (disk.moment new)) own others;
@@ -80,8 +73,8 @@ goes_nowhere disk d = record {
   told = λ tells. record { later = le_refl (disk.moment d); past = λ t files low i. i; keeps = λ t files low i. i };
 }
 
-module _ {D V T : Type 0} (disk : Ghosts D) (family : Family) (holds : Files → Option V) (change : Change V) (was now : Shown V) (d : D)
-    (ready : now.ready) (rests : Tells disk d → now.rests (disk.content d)) (gives : Tells disk d → (files : Files) → disk.images d (disk.moment d) files → holds files ≡ Some was.value) where
+module _ {D V T : Type 0} (disk : Ghosts D) (family : Family) (holds : Held V) (change : Change V) (was now : Shown V) (d : D)
+    (ready : now.ready) (rests : Tells disk d → now.rests (disk.content d)) (gives : Tells disk d → holds.told → (files : Files) → disk.images d (disk.moment d) files → holds.of files ≡ Some was.value) where
   -- nothing was to be changed
   pub writes_nothing : (x : T) → now.value ≡ change.to → now.weight ≤ was.weight → Writes disk was now d d family holds change (Ok x)
   writes_nothing x same light = record {
@@ -109,7 +102,7 @@ module _ {D V T : Type 0} (disk : Ghosts D) (family : Family) (holds : Files →
   }
 
 -- memory was wanting once a change was written
-pub writes_lost : {D V T : Type 0} (disk : Ghosts D) (family : Family) (holds : Files → Option V) (change : Change V) (was now : Shown V) (old new : D) (result : Result T Error) → IsErrAnd result (λ e. e ≡ OutOfMemory)
+pub writes_lost : {D V T : Type 0} (disk : Ghosts D) (family : Family) (holds : Held V) (change : Change V) (was now : Shown V) (old new : D) (result : Result T Error) → IsErrAnd result (λ e. e ≡ OutOfMemory)
     → GoesOn disk old new → (Tells disk old → Moves disk family holds (was.value ∷ change.to ∷ []) old new) → IsLost disk was now old new holds change → Writes disk was now old new family holds change result
 writes_lost disk family holds change was now old new (Ok x) is goes moves so = absurd is
 writes_lost disk family holds change was now old new (Err e) is goes moves so = record {

@@ -1,5 +1,5 @@
 -- A store of whose value a part is seen.
-use Rattle.std.proofs.Common.{◌≡◌, refl, inl, inr, ⊎_elim, ℕ, ◌+◌, ◌≤◌, List, [], ◌∷◌, Option, Some, Result, Ok, Err, ap, ◌∙◌, subst, arith}
+use Rattle.std.proofs.Common.{◌≡◌, refl, inl, inr, ⊎_elim, ℕ, ◌+◌, ◌≤◌, [], ◌∷◌, Some, Result, Ok, Err, ap, ◌∙◌, subst, arith}
 use Rattle.den_disk.specs.declared.disk.Disk.{Ghosts}
 use Rattle.den_disk.specs.declared.place.Family.{Family}
 use Rattle.den_disk.specs.Files.{Files}
@@ -9,7 +9,7 @@ use Rattle.den_codec.specs.declared.error.Error.TheVariants as error
 use Rattle.den_codec.specs.Full.{IsHeavy}
 use Rattle.den_journal.specs.Causes.{IsFullFor}
 use Rattle.den_journal.specs.Folding.{IsUnread}
-use Rattle.den_journal.specs.Shown.{Change, Shown, seen_as}
+use Rattle.den_journal.specs.Shown.{Change, Held, Shown, seen_as}
 use Rattle.den_journal.specs.Writes.{Tells, Moves, Becomes, Untouched, IsLost, IsRefused, Writes}
 
 -- ---- a heavier weight
@@ -34,14 +34,14 @@ IsSameOutcome (Ok x) (Ok y) = Unit {0}
 IsSameOutcome (Err e) (Err f) = e ≡ f
 IsSameOutcome _ _ = ⊥
 
-module _ {D V W : Type 0} (disk : Ghosts D) (family : Family) (holds : Files → Option V) (held : Files → Option W) (part : V → W) (was now : Shown V) (old new : D) (change : Change V) (made : Change W)
-    (gives : (files : Files) (v : V) → holds files ≡ Some v → held files ≡ Some (part v)) (to : part change.to ≡ made.to) (size : change.size ≡ made.size) (rise : change.rise ≤ made.rise) (lost : change.lost → made.lost) where
-  made_some : (files : Files) → holds files ≡ Some change.to → held files ≡ Some made.to
+module _ {D V W : Type 0} (disk : Ghosts D) (family : Family) (holds : Held V) (held : Held W) (part : V → W) (was now : Shown V) (old new : D) (change : Change V) (made : Change W)
+    (told : held.told → holds.told) (gives : (files : Files) (v : V) → holds.of files ≡ Some v → held.of files ≡ Some (part v)) (to : part change.to ≡ made.to) (size : change.size ≡ made.size) (rise : change.rise ≤ made.rise) (lost : change.lost → made.lost) where
+  made_some : (files : Files) → holds.of files ≡ Some change.to → held.of files ≡ Some made.to
   made_some files is = gives files change.to is ∙ ap (λ w. Some w) to
 
   moves_part : Moves disk family holds (was.value ∷ change.to ∷ []) old new → Moves disk family held (part was.value ∷ made.to ∷ []) old new
   moves_part m = record {
-    own = λ t files low high i. ⊎_elim (λ before. inl (gives files was.value before)) (λ after. inr (made_some files after)) (m.own t files low high i);
+    own = λ is t files low high i. ⊎_elim (λ before. inl (gives files was.value before)) (λ after. inr (made_some files after)) (m.own (told is) t files low high i);
     others = m.others;
     spares = m.spares;
   }
@@ -53,7 +53,7 @@ module _ {D V W : Type 0} (disk : Ghosts D) (family : Family) (holds : Files →
   untouched_part u = record { same_disk = u.same_disk; same_value = ap part u.same_value; same_weight = u.same_weight; ready = u.ready; rests = u.rests }
 
   lost_part : IsLost disk was now old new holds change → IsLost disk (seen_as part was) (seen_as part now) old new held made
-  lost_part l = record { may_be = lost l.may_be; failed = l.failed; held = λ tells files i. made_some files (l.held tells files i) }
+  lost_part l = record { may_be = lost l.may_be; failed = l.failed; held = λ tells is files i. made_some files (l.held tells (told is) files i) }
 
   refused_part : (e : Error) → IsRefused disk was now old new family holds change e → IsRefused disk (seen_as part was) (seen_as part now) old new family held made e
   refused_part e r = record {
@@ -94,7 +94,7 @@ unread_part rose told at one other error.StateMachineError gives h = h
 -- ---- a refused call
 
 -- a call that takes no memory behind its write leaves the value, whatever refused it
-pub refused_same : {D V : Type 0} (disk : Ghosts D) (was now : Shown V) (old new : D) (family : Family) (holds : Files → Option V) (change : Change V) (e : Error) → (change.lost → ⊥)
+pub refused_same : {D V : Type 0} (disk : Ghosts D) (was now : Shown V) (old new : D) (family : Family) (holds : Held V) (change : Change V) (e : Error) → (change.lost → ⊥)
     → IsRefused disk was now old new family holds change e → now.value ≡ was.value
 refused_same disk was now old new family holds change error.OutOfMemory never r = ⊎_elim (λ u. u.same_value) (λ l. absurd (never l.may_be)) (r.untouched refl)
 refused_same disk was now old new family holds change error.StorageIoError never r = r.kept tt
@@ -102,7 +102,7 @@ refused_same disk was now old new family holds change (error.DiskFull needed lim
 refused_same disk was now old new family holds change _ never r = absurd r.cause
 
 -- and so does any that can go on
-pub refused_ready : {D V : Type 0} (disk : Ghosts D) (was now : Shown V) (old new : D) (family : Family) (holds : Files → Option V) (change : Change V) (e : Error) → now.ready
+pub refused_ready : {D V : Type 0} (disk : Ghosts D) (was now : Shown V) (old new : D) (family : Family) (holds : Held V) (change : Change V) (e : Error) → now.ready
     → IsRefused disk was now old new family holds change e → now.value ≡ was.value
 refused_ready disk was now old new family holds change error.OutOfMemory ready r = ⊎_elim (λ u. u.same_value) (λ l. absurd (l.failed ready)) (r.untouched refl)
 refused_ready disk was now old new family holds change error.StorageIoError ready r = r.kept tt

@@ -1,10 +1,10 @@
 -- What contracts see of a journal.
-use Rattle.std.specs.Prelude.{◌≡◌, ℕ, List, Option, Result, length}
+use Rattle.std.specs.Prelude.{ℕ, List, Result, length}
 use Rattle.den_disk.specs.Files.{Files}
 use Rattle.den_model.specs.Image.{in_regions}
 use Rattle.den_journal.specs.declared.folded.Folded.{Ghosts}
 use Rattle.den_journal.specs.declared.journal.Journal.{Journal}
-use Rattle.den_journal.specs.Shown.{Change, Shown, shown_of, held_in}
+use Rattle.den_journal.specs.Shown.{Change, Held, Shown, shown_of, held_in}
 
 module _ {F R : Type 0} (fold : Ghosts F R) where
   -- its value, and what else is seen of it
@@ -15,8 +15,8 @@ module _ {F R : Type 0} (fold : Ghosts F R) where
   abbrev pub journal_in : Files → Result fold.Value ℕ
   journal_in files = in_regions fold.FAMILY (fold.from fold.empty) files
 
-  abbrev pub journal_held : Files → Option fold.Value
-  journal_held files = held_in fold.FAMILY (fold.from fold.empty) files
+  abbrev pub journal_held : Held fold.Value
+  journal_held = held_in fold.FAMILY (fold.from fold.empty)
 
   -- what a region of this word changes of a value
   abbrev pub region_change : fold.Value → R → List ℕ → Change fold.Value

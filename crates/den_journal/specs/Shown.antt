@@ -15,6 +15,12 @@ pub record Shown (V : Type 0) : Type 1 where
   pub ready : Type 0
   pub rests : Content → Type 0
 
+-- What a store says of files: whether it tells what they give of its own family, which no call changes, and what they
+-- give.
+pub record Held (V : Type 0) : Type 1 where
+  pub told : Type 0
+  pub of : Files → Option V
+
 -- What a call writes: the value that it makes, the bytes of its region's payload, by how much the weight rises at most,
 -- and whether memory may be wanting once the region is written.
 pub record Change (V : Type 0) : Type 1 where
@@ -44,6 +50,6 @@ pub record Gives {V : Type 0} (family : Family) (meaning : List Region → Resul
 abbrev pub shown_of : {V : Type 0} → Family → (List Region → Result V ℕ) → Bool → GateFile → V → Shown V
 shown_of family meaning failed gate value = record { value = value; weight = gate.end; ready = (failed ≡ false) × (gate.failed ≡ false); rests = Gives family meaning gate value }
 
--- what files give
-abbrev pub held_in : {V : Type 0} → Family → (List Region → Result V ℕ) → Files → Option V
-held_in family meaning files = ok (in_regions family meaning files)
+-- what files give of a family by the meaning of its regions, which is told
+abbrev pub held_in : {V : Type 0} → Family → (List Region → Result V ℕ) → Held V
+held_in family meaning = record { told = Unit {0}; of = λ files. ok (in_regions family meaning files) }

@@ -1,5 +1,5 @@
 -- What the calls of a store leave, of the disk that they are lent and of the store.
-use Rattle.std.specs.Prelude.{◌≡◌, ◌⊎◌, ◌≤◌, ℕ, ◌+◌, List, [], ◌∷◌, Option, Some, Result, Ok, Err, IsTrue, IfOk, IfErr, OnOk}
+use Rattle.std.specs.Prelude.{◌≡◌, ◌⊎◌, ◌≤◌, ℕ, ◌+◌, List, [], ◌∷◌, Some, Result, Ok, Err, IsTrue, IfOk, IfErr, OnOk}
 use Rattle.den_disk.specs.declared.disk.Disk.{Ghosts}
 use Rattle.den_disk.specs.declared.place.Family.{Family}
 use Rattle.den_disk.specs.Place.{place_number}
@@ -14,7 +14,7 @@ use Rattle.den_codec.specs.Full.{IsHeavy}
 use Rattle.den_journal.specs.Causes.{IsFullFor, IsOfDisk, IsRefusal}
 use Rattle.den_journal.specs.Folding.{IsUnread}
 use Rattle.den_journal.specs.Opening.{IsSettled}
-use Rattle.den_journal.specs.Shown.{Change, IsOneOf, Shown}
+use Rattle.den_journal.specs.Shown.{Change, Held, IsOneOf, Shown}
 
 module _ {D : Type 0} (disk : Ghosts D) where
   -- the same kind of disk, which counts its faults and keeps the images of earlier moments
@@ -29,10 +29,10 @@ module _ {D : Type 0} (disk : Ghosts D) where
   abbrev pub Faulted : D → D → Type 0
   Faulted old new = Rose (disk.faults old) (disk.faults new)
 
-  -- At each moment of a call a crash leaves the family's files to give one of these values, and those of the other families
-  -- as a crash before it might have left them.
-  pub record Moves {V : Type 0} (family : Family) (holds : Files → Option V) (values : List V) (old new : D) : Type 0 where
-    pub own : (t : ℕ) (files : Files) → disk.moment old ≤ t → t ≤ disk.moment new → disk.images new t files → IsOneOf values (holds files)
+  -- At each moment of a call a crash leaves the family's files to give one of these values, where the store tells what
+  -- they give, and those of the other families as a crash before it might have left them.
+  pub record Moves {V : Type 0} (family : Family) (holds : Held V) (values : List V) (old new : D) : Type 0 where
+    pub own : holds.told → (t : ℕ) (files : Files) → disk.moment old ≤ t → t ≤ disk.moment new → disk.images new t files → IsOneOf values (holds.of files)
     pub others : SparesImages family (disk.images old) (disk.images new) (disk.moment old) (disk.moment new)
     pub spares : SparesOthers family (disk.content old) (disk.content new)
 
@@ -43,7 +43,7 @@ module _ {D : Type 0} (disk : Ghosts D) where
       pub rests : Tells at → now.rests (disk.content at)
 
   -- the last call of a store: it puts all files on the disk, and takes no memory
-  pub record Ends {T V : Type 0} (was : Shown V) (old new : D) (family : Family) (holds : Files → Option V) (result : Result T Error) : Type 0 where
+  pub record Ends {T V : Type 0} (was : Shown V) (old new : D) (family : Family) (holds : Held V) (result : Result T Error) : Type 0 where
     pub goes_on : GoesOn old new
     pub moves : Tells old → Moves family holds (was.value ∷ []) old new
     pub flushed : Tells old → OnOk result ((disk.content new).pending ≡ [])
@@ -66,14 +66,14 @@ module _ {D : Type 0} (disk : Ghosts D) where
       pub rests : Tells old → now.rests (disk.content new)
 
     -- A call whose change is in the files and not in memory, since memory was wanting behind the write.
-    pub record IsLost (holds : Files → Option V) (change : Change V) : Type 0 where
+    pub record IsLost (holds : Held V) (change : Change V) : Type 0 where
       pub may_be : change.lost
       pub failed : now.ready → ⊥
-      pub held : Tells old → (files : Files) → disk.images new (disk.moment new) files → holds files ≡ Some change.to
+      pub held : Tells old → holds.told → (files : Files) → disk.images new (disk.moment new) files → holds.of files ≡ Some change.to
 
     -- A refusal of a call that writes. Want of memory changes nothing; after a refusal of the disk the store is of no more
     -- use, with the value that it had. A full disk is told the room that the slot in use would need.
-    pub record IsRefused (family : Family) (holds : Files → Option V) (change : Change V) (e : Error) : Type 0 where
+    pub record IsRefused (family : Family) (holds : Held V) (change : Change V) (e : Error) : Type 0 where
       pub cause : IsRefusal (Faulted old new) (disk.kind old).limit e
       pub full : IsFullFor (Tells old) ((disk.content old).reading (slot_of family (disk.content old).reading)) was.weight change.size e
       pub heavy : IsHeavy (disk.kind old).limit (was.weight + change.rise) e
@@ -82,14 +82,14 @@ module _ {D : Type 0} (disk : Ghosts D) where
       pub kept : IsOfDisk e → now.value ≡ was.value
 
     -- A call that makes one change of the family's files. A crash inside leaves the old value or the new one.
-    pub record Writes {T : Type 0} (family : Family) (holds : Files → Option V) (change : Change V) (result : Result T Error) : Type 0 where
+    pub record Writes {T : Type 0} (family : Family) (holds : Held V) (change : Change V) (result : Result T Error) : Type 0 where
       pub goes_on : GoesOn old new
       pub moves : Tells old → Moves family holds (was.value ∷ change.to ∷ []) old new
       pub done : OnOk result (Becomes change)
       pub refused : IfErr result (IsRefused family holds change)
 
     -- A call that puts all files on the disk, and takes no memory.
-    pub record Syncs {T : Type 0} (family : Family) (holds : Files → Option V) (result : Result T Error) : Type 0 where
+    pub record Syncs {T : Type 0} (family : Family) (holds : Held V) (result : Result T Error) : Type 0 where
       pub ends : Ends was old new family holds result
       pub same_value : now.value ≡ was.value
       pub same_weight : now.weight ≡ was.weight

@@ -12,7 +12,8 @@
 //! 2. The slot in use is at rest: nothing of it is pending, and behind its last region stands a closed gate or the file's
 //!    end: `at_rest`, `current` of `Gives`.
 //! 3. A crash at any moment of a call leaves the family's files to give one of the values that the call names, and the
-//!    files of the other families as a crash before the call might have left them: `Moves` in specs/Writes.antt.
+//!    files of the other families as a crash before the call might have left them: `Moves` in specs/Writes.antt. Of the
+//!    first a store may say nothing (`told` of `Held` in specs/Shown.antt); a journal always tells.
 //! 4. The weight is the bytes of the regions in use. A full disk is told the room that the refused region needs behind
 //!    them: `full` of `IsRefused`.
 //! 5. Memory is taken before the region is written. A value that takes memory behind the write, too, says so (`lost`), and a
@@ -21,7 +22,7 @@
 //! A call of a store is stated by one record, over what is seen of the store before and after it (`Shown`) and what the
 //! call writes (`Change`): `Writes` for a call that changes the value, `Syncs` for a flush, `Ends` for the last call,
 //! `Opens` for an opening, `Stands` for what each needs. `Lies` has what a caller may take of any store: only its own
-//! family's files count, and a crash of files at rest gives its value.
+//! family's files count, and where it tells what they give, a crash of files at rest gives its value.
 //!
 //!     let mut journal = Journal::<LastState>::open(alloc, &mut disk)?;
 //!     journal.change(&mut disk, state)?;

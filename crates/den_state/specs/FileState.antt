@@ -1,11 +1,10 @@
 -- A state machine over a journal.
-use Rattle.std.specs.Prelude.{◌<◌, ◌≤◌, ℕ, Option}
+use Rattle.std.specs.Prelude.{◌<◌, ◌≤◌, ℕ}
 use Rattle.den_disk.specs.declared.place.Family.TheVariants.{State as state_family}
-use Rattle.den_disk.specs.Files.{Files}
 use Rattle.den_model.specs.Image.{ok, map_in}
 use Rattle.den_model.specs.MapState.{MapState, empty_map, map_from}
 use Rattle.den_journal.specs.Lies.{Lies, gives_own, gives_hold, held_own}
-use Rattle.den_journal.specs.Shown.{Shown, shown_of, seen_as, held_in}
+use Rattle.den_journal.specs.Shown.{Held, Shown, shown_of, seen_as}
 use Rattle.den_state.specs.declared.file_machine.FileStateMachine.{FileStateMachine}
 use Rattle.den_state.specs.Folds.{held_map}
 use Rattle.den_state.specs.Machine.{Settings}
@@ -29,13 +28,13 @@ state_settings s = record { leased = s.leased; running = s.running; metadata = s
 abbrev pub HasShortTail : FileStateMachine → Type 0
 HasShortTail s = s.journal.held.tail < 1000
 
--- what files give of a map
-abbrev pub map_held : Files → Option MapState
-map_held files = ok (map_in files)
+-- what files give of a map, which is told
+abbrev pub map_held : Held MapState
+map_held = record { told = Unit {0}; of = λ files. ok (map_in files) }
 
 pub state_lies : Lies state_family map_held state_shown
 state_lies = record {
   rests_own = λ s. gives_own state_family (stored_from nothing_stored) s.journal.gate (stored_of s);
   holds_own = held_own state_family (map_from empty_map);
-  rests_hold = λ s c files ready rests image. held_map files (stored_of s) (gives_hold state_family (stored_from nothing_stored) s.journal.gate (stored_of s) c files rests image);
+  rests_hold = λ told s c files ready rests image. held_map files (stored_of s) (gives_hold state_family (stored_from nothing_stored) s.journal.gate (stored_of s) c files rests image);
 }

@@ -93,7 +93,7 @@ held_is (Ok x) s is = ap (λ (o : Option Stored). elim o [ None ↦ None | Some 
 held_is (Err offset) s is = absurd (cc is)
 
 -- files that give it give its map
-pub held_map : (files : Files) (s : Stored) → held_in family.State (stored_from nothing_stored) files ≡ Some s → ok (map_in files) ≡ Some s.map
+pub held_map : (files : Files) (s : Stored) → (held_in family.State (stored_from nothing_stored)).of files ≡ Some s → ok (map_in files) ≡ Some s.map
 held_map files s is = ap ok (files_map files) ∙ held_is (in_regions family.State (stored_from nothing_stored) files) s is
 
 pub given_map : (files : Files) (s : Stored) → in_regions family.State (stored_from nothing_stored) files ≡ Ok s → map_in files ≡ Ok s.map

@@ -14,7 +14,7 @@ use Rattle.den_model.specs.Image.{slot_of}
 use Rattle.den_model.specs.MapState.{MapState}
 use Rattle.den_journal.specs.Causes.{IsFullFor, IsRefusal}
 use Rattle.den_journal.specs.Lies.{Lies}
-use Rattle.den_journal.specs.Shown.{Change, Shown}
+use Rattle.den_journal.specs.Shown.{Change, Held, Shown}
 use Rattle.den_journal.specs.Writes.{Faulted, GoesOn, Moves, Tells}
 use Rattle.den_state.specs.declared.file_machine.SnapshotMetadata.{SnapshotMetadata}
 
@@ -30,12 +30,12 @@ pub record AtRest (shown : Shown MapState) (map : MapState) (c : Content) : Type
   pub stored : shown.value ≡ map
 
 -- only the files of its own family count
-pub rest_own : {S : Type 0} {family : Family} {holds : Files → Option MapState} {shown : S → Shown MapState} → Lies family holds shown → (s : S) (map : MapState) (old new : Content) → SparesOwn family old new → AtRest (shown s) map old → AtRest (shown s) map new
+pub rest_own : {S : Type 0} {family : Family} {holds : Held MapState} {shown : S → Shown MapState} → Lies family holds shown → (s : S) (map : MapState) (old new : Content) → SparesOwn family old new → AtRest (shown s) map old → AtRest (shown s) map new
 rest_own lies s map old new spares r = record { rests = lies.rests_own s old new spares r.rests; stored = r.stored }
 
--- whatever a crash does to what is pending
-pub rest_hold : {S : Type 0} {family : Family} {holds : Files → Option MapState} {shown : S → Shown MapState} → Lies family holds shown → (s : S) (map : MapState) (c : Content) (files : Files) → (shown s).ready → AtRest (shown s) map c → IsImage c files → holds files ≡ Some map
-rest_hold lies s map c files ready r image = lies.rests_hold s c files ready r.rests image ∙ ap (λ m. Some m) r.stored
+-- and they give it, where the state machine tells what they give, whatever a crash does to what is pending
+pub rest_hold : {S : Type 0} {family : Family} {holds : Held MapState} {shown : S → Shown MapState} → Lies family holds shown → holds.told → (s : S) (map : MapState) (c : Content) (files : Files) → (shown s).ready → AtRest (shown s) map c → IsImage c files → holds.of files ≡ Some map
+rest_hold lies told s map c files ready r image = lies.rests_hold told s c files ready r.rests image ∙ ap (λ m. Some m) r.stored
 
 -- its files, what they give and their length are as they were
 pub record StaysAs {S : Type 0} (shown : S → Shown MapState) (short : S → Type 0) (old new : S) : Type 0 where
@@ -49,12 +49,13 @@ pub record StaysAs {S : Type 0} (shown : S → Shown MapState) (short : S → Ty
 abbrev pub Adds : {D : Type 0} → Ghosts D → (slot : Place) (old new : D) → List ℕ → Type 0
 Adds disk slot old new word = Tells disk old → payloads_of ((disk.content new).reading slot) ≡ payloads_of ((disk.content old).reading slot) ++ word ∷ []
 
--- The last call of a store, which may write. What it leaves on the disk gives the value that it was to store.
+-- The last call of a store, which may write. What it leaves on the disk gives the value that it was to store, where the
+-- store tells what files give.
 module _ {D : Type 0} (disk : Ghosts D) where
-  pub record Closes {T V : Type 0} (was : Shown V) (old new : D) (family : Family) (holds : Files → Option V) (change : Change V) (result : Result T Error) : Type 0 where
+  pub record Closes {T V : Type 0} (was : Shown V) (old new : D) (family : Family) (holds : Held V) (change : Change V) (result : Result T Error) : Type 0 where
     pub goes_on : GoesOn disk old new
     pub moves : Tells disk old → Moves disk family holds (was.value ∷ change.to ∷ []) old new
-    pub held : OnOk result (Tells disk old → (files : Files) → disk.images new (disk.moment new) files → holds files ≡ Some change.to)
+    pub held : OnOk result (Tells disk old → holds.told → (files : Files) → disk.images new (disk.moment new) files → holds.of files ≡ Some change.to)
     pub cause : IfErr result (IsRefusal (Faulted disk old new) (disk.kind old).limit)
     pub full : IfErr result (IsFullFor (Tells disk old) ((disk.content old).reading (slot_of family (disk.content old).reading)) was.weight change.size)
     pub heavy : IfErr result (IsHeavy (disk.kind old).limit (was.weight + change.rise))

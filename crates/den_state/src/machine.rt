@@ -2,7 +2,6 @@
 ghost use Rattle.std.specs.Prelude.{◌≡◌, ◌==◌, ◌≤◌, ◌↔◌, ◌&&◌, true, false, [], ◌∷◌, max, length, Option, Some, None, IfSome, IsOk, OnOk, IfOk, IfErr, option_map, Err};
 ghost use Rattle.den_disk.specs.declared.place.Family.TheVariants.{State as state_family};
 ghost use Rattle.den_disk.specs.declared.place.Place.{Place};
-ghost use Rattle.den_disk.specs.Files.{Files};
 ghost use Rattle.den_model.specs.MapState.{MapState, map_applied_all, results_of, part_of};
 ghost use Rattle.den_model.specs.declared.journal.JournalRecord.TheVariants.{Cleanup};
 ghost use Rattle.den_model.specs.declared.region.StateRegion.TheVariants.{Mark, Records};
@@ -17,7 +16,7 @@ ghost use Rattle.den_lease.specs.Due.{has_due};
 ghost use Rattle.den_map.specs.Leases.{has_expiry};
 ghost use Rattle.den_map.specs.Scan.{keys_in};
 ghost use Rattle.den_journal.specs.Lies.{Lies};
-ghost use Rattle.den_journal.specs.Shown.{Shown};
+ghost use Rattle.den_journal.specs.Shown.{Held, Shown};
 ghost use Rattle.den_journal.specs.Writes.{Stands, Writes};
 ghost use Rattle.den_state.specs.Changes.{chunk_change, cleanup_change, mark_change};
 ghost use Rattle.den_state.specs.Chunk.{refusal_of_chunk};
@@ -34,8 +33,8 @@ pub trait StateMachine<D: Disk>: Drop {
     /// Pairs, expiries and the stored mark, which its files give, and what else is seen of a store.
     ghost shown: { Self → Shown MapState };
 
-    /// What files give of a map.
-    ghost holds: { Files → Option MapState };
+    /// What files give of a map, and whether it is told.
+    ghost holds: { Held MapState };
 
     /// Pairs, expiries and the applied mark.
     ghost map: { Self → MapState };
@@ -196,7 +195,8 @@ pub trait StateMachine<D: Disk>: Drop {
     fn last_applied(&self) -> LogId
         ensures { result ≡ (map self.now).mark };
 
-    /// Only its own files count, and they give its map with the stored mark, whatever a crash does to what is pending.
+    /// Only its own files count, and they give its map with the stored mark, where it tells what they give, whatever a
+    /// crash does to what is pending.
     ghost lies: { Lies state_family holds shown };
 
     /// The stored map is the map, but for its mark.

@@ -1,11 +1,10 @@
 -- A log store over a journal.
-use Rattle.std.specs.Prelude.{ℕ, List, Option}
+use Rattle.std.specs.Prelude.{ℕ, List}
 use Rattle.den_disk.specs.declared.place.Family.TheVariants.{Log as log_family}
 use Rattle.den_disk.specs.Place.{place_number}
-use Rattle.den_disk.specs.Files.{Files}
 use Rattle.den_model.specs.Log.{Log, empty_log, log_from}
 use Rattle.den_journal.specs.Lies.{Lies, gives_own, gives_hold, held_own}
-use Rattle.den_journal.specs.Shown.{Shown, shown_of, held_in}
+use Rattle.den_journal.specs.Shown.{Held, Shown, shown_of, held_in}
 use Rattle.den_store.specs.declared.log_store.FileLogStore.{FileLogStore}
 use Rattle.den_store.specs.Held.{log_of}
 
@@ -17,13 +16,13 @@ log_shown s = shown_of log_family (log_from empty_log) s.journal.failed s.journa
 abbrev pub file_place : FileLogStore → ℕ
 file_place s = place_number (record { family = log_family; part = s.journal.gate.slot.part })
 
--- what files give of a log
-abbrev pub log_held : Files → Option Log
-log_held files = held_in log_family (log_from empty_log) files
+-- what files give of a log, which is told
+abbrev pub log_held : Held Log
+log_held = held_in log_family (log_from empty_log)
 
 pub log_lies : Lies log_family log_held log_shown
 log_lies = record {
   rests_own = λ s. gives_own log_family (log_from empty_log) s.journal.gate (log_of s.journal.held);
   holds_own = held_own log_family (log_from empty_log);
-  rests_hold = λ s c files ready. gives_hold log_family (log_from empty_log) s.journal.gate (log_of s.journal.held) c files;
+  rests_hold = λ told s c files ready. gives_hold log_family (log_from empty_log) s.journal.gate (log_of s.journal.held) c files;
 }

@@ -2,14 +2,13 @@
 ghost use Rattle.std.specs.Prelude.{◌≡◌, ◌≤◌, ◌<◌, ◌↔◌, ◌+◌, ℕ, true, false, IsTrue, List, [], Option, Some, IfSome, OnOk, IfOk, IfErr, length};
 ghost use Rattle.den_codec.specs.declared.error.Error.TheVariants.{OutOfMemory, StorageIoError};
 ghost use Rattle.den_disk.specs.declared.place.Family.TheVariants.{Log as log_family, Meta as meta_family};
-ghost use Rattle.den_disk.specs.Files.{Files};
 ghost use Rattle.den_disk.specs.Goes.{Rose, DiskGoesOn};
 ghost use Rattle.den_model.specs.Entries.{rise_from};
 ghost use Rattle.den_model.specs.Log.{Log, between, floor, last_index};
 ghost use Rattle.den_model.specs.declared.region.LogRegion.TheVariants.{Append, Purge, Replace, Reset, Truncate};
 ghost use Rattle.den_model.specs.declared.log_id.HardState.{HardState};
 ghost use Rattle.den_journal.specs.Lies.{Lies};
-ghost use Rattle.den_journal.specs.Shown.{Shown};
+ghost use Rattle.den_journal.specs.Shown.{Held, Shown};
 ghost use Rattle.den_journal.specs.Writes.{Ends, Stands, Syncs, Writes};
 ghost use Rattle.den_store.specs.Changes.{log_change, state_change};
 ghost use Rattle.den_store.specs.Lookup.{entry_at};
@@ -23,8 +22,8 @@ pub trait LogStore<D: Disk>: Drop {
     /// Its boundary and its entries, and what else is seen of a store.
     ghost shown: { Self → Shown Log };
 
-    /// What files give of a log.
-    ghost holds: { Files → Option Log };
+    /// What files give of a log, and whether it is told.
+    ghost holds: { Held Log };
 
     /// The number of the file in which it lies.
     ghost place: { Self → ℕ };
@@ -114,7 +113,8 @@ pub trait LogStore<D: Disk>: Drop {
     /// Its entries rise above its boundary.
     ghost in_order: { (s : Self) → IsInOrder (shown s).value };
 
-    /// Only its own files count, and they give its log, whatever a crash does to what is pending.
+    /// Only its own files count, and they give its log, where it tells what they give, whatever a crash does to what is
+    /// pending.
     ghost lies: { Lies log_family holds shown };
 }
 
@@ -123,8 +123,8 @@ pub trait MetaStore<D: Disk>: Drop {
     /// The last hard state, if one was saved, and what else is seen of a store.
     ghost shown: { Self → Shown (Option HardState) };
 
-    /// What files give of hard states.
-    ghost holds: { Files → Option (Option HardState) };
+    /// What files give of hard states, and whether it is told.
+    ghost holds: { Held (Option HardState) };
 
     /// Saves a hard state. A crash inside leaves the old one or the new one.
     fn save_hard_state(&mut self, disk: &mut D, state: &HardState) -> Result<(), Error>
@@ -145,6 +145,7 @@ pub trait MetaStore<D: Disk>: Drop {
     fn load_hard_state(&self) -> Option<HardState>
         ensures { result ≡ (shown self.now).value };
 
-    /// Only its own files count, and they give its hard state, whatever a crash does to what is pending.
+    /// Only its own files count, and they give its hard state, where it tells what they give, whatever a crash does to
+    /// what is pending.
     ghost lies: { Lies meta_family holds shown };
 }

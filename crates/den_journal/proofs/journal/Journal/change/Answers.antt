@@ -23,7 +23,7 @@ returns-in_err-write-clause-writes g c =
     let j = c.args.self.now in
     let v = F.value j.held in
     writes_refused D F.FAMILY (held_in F.FAMILY (F.from F.empty)) _ _ _ d c.requires.stands.ready c.requires.stands.rests
-    (λ tells files i. gives_hold F.FAMILY (F.from F.empty) j.gate v (D.content d) files (c.requires.stands.rests tells) ((g.met.D.Disk.images_now d files tells).0 i))
+    (λ tells told files i. gives_hold F.FAMILY (F.from F.empty) j.gate v (D.content d) files (c.requires.stands.rests tells) ((g.met.D.Disk.images_now d files tells).0 i))
     c.from_residual.result c.from_residual.ensures.1 refl refl
 
 pub returns-in_err-make_room-clause-writes : goal.returns-in_err-make_room-clause-writes
@@ -36,7 +36,7 @@ returns-in_err-make_room-clause-writes g c =
     writes_refused D F.FAMILY (held_in F.FAMILY (F.from F.empty)) _ _ _ d c.requires.stands.ready
     (λ tells. let r = c.requires.stands.rests tells in
     record { family_is = r.family_is; at_rest = r.at_rest; current = r.current; means = r.means ∙ ap (λ x. Ok x) (sym c.make_room.ensures.same) })
-    (λ tells files i. gives_hold F.FAMILY (F.from F.empty) j.gate v (D.content d) files (c.requires.stands.rests tells) ((g.met.D.Disk.images_now d files tells).0 i))
+    (λ tells told files i. gives_hold F.FAMILY (F.from F.empty) j.gate v (D.content d) files (c.requires.stands.rests tells) ((g.met.D.Disk.images_now d files tells).0 i))
     c.from_residual-in_err-make_room.result c.from_residual-in_err-make_room.ensures.1 c.make_room.ensures.same refl
 
 pub returns-in_ok-settle-in-Ok-clause-writes : goal.returns-in_ok-settle-in-Ok-clause-writes
@@ -93,7 +93,7 @@ returns-in_err-settle-in-Ok-clause-writes g c =
     (record {
       may_be = c.in_err-settle-in-Ok.ensures.lost refl;
       failed = λ ready. absurd (cc (ready.0));
-      held = λ tells files i. let r = c.requires.stands.rests tells in
+      held = λ tells told files i. let r = c.requires.stands.rests tells in
           let still = subst (λ (k : Kind). IsTrue k.tells) (sym c.append.ensures.disk.same) tells in
           gives_hold F.FAMILY (F.from F.empty) c.append.new.self w (D.content new) files
           (record {

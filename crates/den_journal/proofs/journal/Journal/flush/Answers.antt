@@ -23,7 +23,7 @@ returns-in-Ok g c =
           goes_on = c.flush.ensures.disk;
           moves = λ tells.
               moves_not D F.FAMILY (held_in F.FAMILY (F.from F.empty)) v [] d new
-              (λ files i. gives_hold F.FAMILY (F.from F.empty) gate v (D.content d) files (c.requires.stands.rests tells) ((g.met.D.Disk.images_now d files tells).0 i))
+              (λ told files i. gives_hold F.FAMILY (F.from F.empty) gate v (D.content d) files (c.requires.stands.rests tells) ((g.met.D.Disk.images_now d files tells).0 i))
               (c.flush.ensures.images tells) (c.flush.ensures.spares tells);
           flushed = c.in-Ok.ensures.flushed;
           refused = tt;
@@ -53,7 +53,7 @@ returns-in-Err g c =
           goes_on = c.flush.ensures.disk;
           moves = λ tells.
               moves_not D F.FAMILY (held_in F.FAMILY (F.from F.empty)) v [] d new
-              (λ files i. gives_hold F.FAMILY (F.from F.empty) gate v (D.content d) files (c.requires.stands.rests tells) ((g.met.D.Disk.images_now d files tells).0 i))
+              (λ told files i. gives_hold F.FAMILY (F.from F.empty) gate v (D.content d) files (c.requires.stands.rests tells) ((g.met.D.Disk.images_now d files tells).0 i))
               (c.flush.ensures.images tells) (c.flush.ensures.spares tells);
           flushed = λ tells. tt;
           refused = subst (λ (e : Error). (e ≡ StorageIoError) × rose) (sym c.refusal.ensures) (sync_refused rose _ c.in-Err.error c.in-Err.ensures.refused);

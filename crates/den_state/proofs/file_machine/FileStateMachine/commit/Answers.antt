@@ -54,7 +54,7 @@ returns-in_err-journaled-clause-writes g c =
     let s = c.requires.stands in
     let d = c.args.disk.now in
     writes_refused g.D.Disk State map_held _ _ _ d s.ready s.rests
-    (λ tells files i. state_lies.rests_hold c.args.self.now (g.D.Disk.content d) files s.ready (s.rests tells) ((g.met.D.Disk.images_now d files tells).0 i))
+    (λ tells told files i. state_lies.rests_hold told c.args.self.now (g.D.Disk.content d) files s.ready (s.rests tells) ((g.met.D.Disk.images_now d files tells).0 i))
     c.from_residual.result c.from_residual.ensures.1 refl refl
 
 pub returns-in-Ok-clause-writes : goal.returns-in-Ok-clause-writes
@@ -64,7 +64,7 @@ returns-in-Ok-clause-writes g c =
     let over = ap (λ (h : StoredMap). h.map) c.held.ensures in
     let after = after_records m c.held.result.now.map c.args.chunk.now c.of-records.result _ over c.of-records.ensures c.in_ok-journaled.ensures.lawful in
     let light = light_records m c.held.result.now.map c.args.chunk.now c.of-records.result _ over c.of-records.ensures c.in_ok-journaled.ensures.records in
-    writes_part g.D.Disk State (held_in State (stored_from nothing_stored)) map_held (λ (v : Stored). v.map) _ _ _ _ _ _ held_map (ap (map_by m) after) light.0 light.1 (λ _. tt) (Ok _) (Ok _) tt c.in-Ok.ensures.writes
+    writes_part g.D.Disk State (held_in State (stored_from nothing_stored)) map_held (λ (v : Stored). v.map) _ _ _ _ _ _ (λ told. told) held_map (ap (map_by m) after) light.0 light.1 (λ _. tt) (Ok _) (Ok _) tt c.in-Ok.ensures.writes
 
 pub returns-in-Err-clause-writes : goal.returns-in-Err-clause-writes
 returns-in-Err-clause-writes g c =
@@ -73,7 +73,7 @@ returns-in-Err-clause-writes g c =
     let over = ap (λ (h : StoredMap). h.map) c.held.ensures in
     let after = after_records m c.held.result.now.map c.args.chunk.now c.of-records.result _ over c.of-records.ensures c.in_ok-journaled.ensures.lawful in
     let light = light_records m c.held.result.now.map c.args.chunk.now c.of-records.result _ over c.of-records.ensures c.in_ok-journaled.ensures.records in
-    writes_part g.D.Disk State (held_in State (stored_from nothing_stored)) map_held (λ (v : Stored). v.map) _ _ _ _ _ _ held_map (ap (map_by m) after) light.0 light.1 (λ _. tt) (Err _) (Err _) refl c.in-Err.ensures.writes
+    writes_part g.D.Disk State (held_in State (stored_from nothing_stored)) map_held (λ (v : Stored). v.map) _ _ _ _ _ _ (λ told. told) held_map (ap (map_by m) after) light.0 light.1 (λ _. tt) (Err _) (Err _) refl c.in-Err.ensures.writes
 
 pub returns-in-Ok-clause-applied : goal.returns-in-Ok-clause-applied
 returns-in-Ok-clause-applied g c =

@@ -17,5 +17,5 @@ returns-then-is_empty-clause-writes g c = λ none.
     let s = c.requires.stands in
     let d = c.args.disk.now in
     writes_nothing g.D.Disk State map_held _ _ _ d s.ready s.rests
-    (λ tells files i. state_lies.rests_hold c.args.self.now (g.D.Disk.content d) files s.ready (s.rests tells) ((g.met.D.Disk.images_now d files tells).0 i))
+    (λ tells told files i. state_lies.rests_hold told c.args.self.now (g.D.Disk.content d) files s.ready (s.rests tells) ((g.met.D.Disk.images_now d files tells).0 i))
     _ (none_applied c.args.self.now.journal.held.map c.args.chunk.now (sym c.is_empty.ensures ∙ c.if-is_empty.true)) (omega arith)

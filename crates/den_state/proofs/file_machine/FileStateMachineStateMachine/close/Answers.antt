@@ -13,9 +13,9 @@ returns-clause-closes g c =
     record {
       goes_on = w.goes_on;
       moves = w.moves;
-      held = on_ok_weaker c.save_hard_state.result (λ b tells files image.
+      held = on_ok_weaker c.save_hard_state.result (λ b tells told files image.
           let still = subst (λ (k : Kind). IsTrue k.tells) (sym w.goes_on.same) tells in
-          state_lies.rests_hold c.save_hard_state.new.self (D.content new) files b.ready (b.rests tells) ((g.met.D.Disk.images_now new files still).0 image) ∙ ap (λ (m : MapState). Some m) b.value) w.done;
+          state_lies.rests_hold told c.save_hard_state.new.self (D.content new) files b.ready (b.rests tells) ((g.met.D.Disk.images_now new files still).0 image) ∙ ap (λ (m : MapState). Some m) b.value) w.done;
       cause = IfErr-weaker c.save_hard_state.result _ _ (λ e r. r.cause) w.refused;
       full = IfErr-weaker c.save_hard_state.result _ _ (λ e r. r.full) w.refused;
       heavy = IfErr-weaker c.save_hard_state.result _ _ (λ e r. r.heavy) w.refused;

@@ -49,7 +49,7 @@ returns-then-not-is_due-clause-writes g c =
     let moment : c.get.result ≡ max c.args.now 1 = c.get.ensures.is ∙ c.of-moment.ensures ∙ c.max.ensures in
     let none : (s.leased && has_due (max c.args.now 1) s.journal.held.map.expiries) ≡ false = ap (λ n. s.leased && has_due n s.journal.held.map.expiries) (sym moment) ∙ sym c.is_due.ensures ∙ c.if-not-is_due.true in
     writes_nothing g.D.Disk State map_held _ _ _ d stands.ready stands.rests
-    (λ tells files i. state_lies.rests_hold s (g.D.Disk.content d) files stands.ready (stands.rests tells) ((g.met.D.Disk.images_now d files tells).0 i))
+    (λ tells told files i. state_lies.rests_hold told s (g.D.Disk.content d) files stands.ready (stands.rests tells) ((g.met.D.Disk.images_now d files tells).0 i))
     _ (sym (nothing_cleaned s.leased (max c.args.now 1) s.journal.held.map none)) (omega arith)
 
 pub returns-then-not-is_due-clause-cleaned : goal.returns-then-not-is_due-clause-cleaned
@@ -75,7 +75,7 @@ returns-in_err-due-clause-writes g c =
     let s = c.requires.stands in
     let d = c.args.disk.now in
     writes_refused g.D.Disk State map_held _ _ _ d s.ready s.rests
-    (λ tells files i. state_lies.rests_hold c.args.self.now (g.D.Disk.content d) files s.ready (s.rests tells) ((g.met.D.Disk.images_now d files tells).0 i))
+    (λ tells told files i. state_lies.rests_hold told c.args.self.now (g.D.Disk.content d) files s.ready (s.rests tells) ((g.met.D.Disk.images_now d files tells).0 i))
     c.from_residual.result c.from_residual.ensures.1 refl refl
 
 pub change-requires-clause-lawful : goal.change-requires-clause-lawful
@@ -108,7 +108,7 @@ returns-in-Ok-clause-writes g c =
     let after = region_gives m at r c.in_ok-due.ensures.region in
     let cleaned = due_cleaned s.leased (has_due c.get.result m.expiries) at (max c.args.now 1) m (sym c.is_due.ensures ∙ c.if-not-is_due.false) same in
     let size = region_size at (max c.args.now 1) r c.in_ok-due.ensures.region same in
-    writes_part g.D.Disk State (held_in State (stored_from nothing_stored)) map_held (λ (v : Stored). v.map) _ _ _ _ _ _ held_map (ap (map_by m) after ∙ cleaned) size.0 size.1 (wants_none at r c.in_ok-due.ensures.region) (Ok _) (Ok _) tt c.in-Ok.ensures.writes
+    writes_part g.D.Disk State (held_in State (stored_from nothing_stored)) map_held (λ (v : Stored). v.map) _ _ _ _ _ _ (λ told. told) held_map (ap (map_by m) after ∙ cleaned) size.0 size.1 (wants_none at r c.in_ok-due.ensures.region) (Ok _) (Ok _) tt c.in-Ok.ensures.writes
 
 pub returns-in-Ok-clause-cleaned : goal.returns-in-Ok-clause-cleaned
 returns-in-Ok-clause-cleaned g c =
@@ -132,7 +132,7 @@ returns-in-Err-clause-writes g c =
     let after = region_gives m at r c.in_ok-due.ensures.region in
     let cleaned = due_cleaned s.leased (has_due c.get.result m.expiries) at (max c.args.now 1) m (sym c.is_due.ensures ∙ c.if-not-is_due.false) same in
     let size = region_size at (max c.args.now 1) r c.in_ok-due.ensures.region same in
-    writes_part g.D.Disk State (held_in State (stored_from nothing_stored)) map_held (λ (v : Stored). v.map) _ _ _ _ _ _ held_map (ap (map_by m) after ∙ cleaned) size.0 size.1 (wants_none at r c.in_ok-due.ensures.region) (Err _) (Err _) refl c.in-Err.ensures.writes
+    writes_part g.D.Disk State (held_in State (stored_from nothing_stored)) map_held (λ (v : Stored). v.map) _ _ _ _ _ _ (λ told. told) held_map (ap (map_by m) after ∙ cleaned) size.0 size.1 (wants_none at r c.in_ok-due.ensures.region) (Err _) (Err _) refl c.in-Err.ensures.writes
 
 pub returns-in-Err-clause-same : goal.returns-in-Err-clause-same
 returns-in-Err-clause-same g c =

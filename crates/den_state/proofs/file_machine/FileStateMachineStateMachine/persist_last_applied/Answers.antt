@@ -28,7 +28,7 @@ returns-in-Ok-clause-writes g c =
     let p = c.args.last_applied in
     let m = s.journal.held.map in
     let after = mark_after m p.index p.term (omega (arith, s.below, c.requires.above)) in
-    writes_part g.D.Disk State (held_in State (stored_from nothing_stored)) map_held (λ (v : Stored). v.map) _ _ _ _ _ _ held_map (ap (map_by m) after) refl (light_mark p.index p.term) (λ h. h) (Ok _) (Ok _) tt c.in-Ok.ensures.writes
+    writes_part g.D.Disk State (held_in State (stored_from nothing_stored)) map_held (λ (v : Stored). v.map) _ _ _ _ _ _ (λ told. told) held_map (ap (map_by m) after) refl (light_mark p.index p.term) (λ h. h) (Ok _) (Ok _) tt c.in-Ok.ensures.writes
 
 pub returns-in-Err-clause-writes : goal.returns-in-Err-clause-writes
 returns-in-Err-clause-writes g c =
@@ -36,7 +36,7 @@ returns-in-Err-clause-writes g c =
     let p = c.args.last_applied in
     let m = s.journal.held.map in
     let after = mark_after m p.index p.term (omega (arith, s.below, c.requires.above)) in
-    writes_part g.D.Disk State (held_in State (stored_from nothing_stored)) map_held (λ (v : Stored). v.map) _ _ _ _ _ _ held_map (ap (map_by m) after) refl (light_mark p.index p.term) (λ h. h) (Err _) (Err _) refl c.in-Err.ensures.writes
+    writes_part g.D.Disk State (held_in State (stored_from nothing_stored)) map_held (λ (v : Stored). v.map) _ _ _ _ _ _ (λ told. told) held_map (ap (map_by m) after) refl (light_mark p.index p.term) (λ h. h) (Err _) (Err _) refl c.in-Err.ensures.writes
 
 pub invariant_of-self : goal.invariant_of-self
 invariant_of-self g c =

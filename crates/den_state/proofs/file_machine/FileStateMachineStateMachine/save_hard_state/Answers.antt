@@ -16,5 +16,5 @@ returns-then-stored-mark-2-clause-writes g c =
     let index : m.mark.index ≡ applied.index = ap (λ (p : LogId). p.index) (sym stored) ∙ c.if-stored-mark.true in
     let term : m.mark.term ≡ applied.term = ap (λ (p : LogId). p.term) (sym stored) ∙ c.if-stored-mark-2.true in
     writes_nothing g.D.Disk State map_held _ _ _ d s.ready s.rests
-    (λ tells files i. state_lies.rests_hold c.args.self.now (g.D.Disk.content d) files s.ready (s.rests tells) ((g.met.D.Disk.images_now d files tells).0 i))
+    (λ tells told files i. state_lies.rests_hold told c.args.self.now (g.D.Disk.content d) files s.ready (s.rests tells) ((g.met.D.Disk.images_now d files tells).0 i))
     tt (λ i. record m { mark = record { index = index i; term = term i } }) (omega arith)

@@ -16,7 +16,7 @@ returns-then-is_empty-clause-writes g c =
     let d = c.args.disk.now in
     let none : length c.args.entries.now ≤ 0 = none_there c.args.entries.now (sym c.is_empty.ensures ∙ c.if-is_empty.true) in
     writes_nothing g.D.Disk log_family log_held _ _ _ d s.ready s.rests
-    (λ tells files i. log_lies.rests_hold c.args.self.now (g.D.Disk.content d) files s.ready (s.rests tells) ((g.met.D.Disk.images_now d files tells).0 i))
+    (λ tells told files i. log_lies.rests_hold told c.args.self.now (g.D.Disk.content d) files s.ready (s.rests tells) ((g.met.D.Disk.images_now d files tells).0 i))
     tt (append_none (log_of c.args.self.now.journal.held) c.args.entries.now none) (omega arith)
 
 pub returns-in_err-copies-clause-writes : goal.returns-in_err-copies-clause-writes
@@ -24,7 +24,7 @@ returns-in_err-copies-clause-writes g c =
     let s = c.requires.stands in
     let d = c.args.disk.now in
     writes_refused g.D.Disk log_family log_held _ _ _ d s.ready s.rests
-    (λ tells files i. log_lies.rests_hold c.args.self.now (g.D.Disk.content d) files s.ready (s.rests tells) ((g.met.D.Disk.images_now d files tells).0 i))
+    (λ tells told files i. log_lies.rests_hold told c.args.self.now (g.D.Disk.content d) files s.ready (s.rests tells) ((g.met.D.Disk.images_now d files tells).0 i))
     c.from_residual.result c.from_residual.ensures.1 refl refl
 
 -- entries that rise above the boundary are as an append wants them

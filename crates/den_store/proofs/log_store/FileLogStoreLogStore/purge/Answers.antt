@@ -17,7 +17,7 @@ returns-then-cutoff-floor-clause-writes g c =
     let l = log_of c.args.self.now.journal.held in
     let under : c.args.cutoff.index ≤ floor l = omega (arith, c.floor.ensures, ap (λ h. floor (log_of h)) c.held.ensures, c.if-cutoff-floor.true) in
     writes_nothing g.D.Disk log_family log_held _ _ _ d s.ready s.rests
-    (λ tells files i. log_lies.rests_hold c.args.self.now (g.D.Disk.content d) files s.ready (s.rests tells) ((g.met.D.Disk.images_now d files tells).0 i))
+    (λ tells told files i. log_lies.rests_hold told c.args.self.now (g.D.Disk.content d) files s.ready (s.rests tells) ((g.met.D.Disk.images_now d files tells).0 i))
     tt (not_purged l c.args.cutoff.index c.args.cutoff.term under) (omega arith)
 
 pub returns-clause-writes : goal.returns-clause-writes

@@ -14,7 +14,7 @@ returns-in_err-copies g c =
     let d = c.args.disk.now in
     record {
       writes = writes_refused g.D.Disk log_family log_held _ _ _ d s.ready s.rests
-          (λ tells files i. log_lies.rests_hold c.args.self.now (g.D.Disk.content d) files s.ready (s.rests tells) ((g.met.D.Disk.images_now d files tells).0 i))
+          (λ tells told files i. log_lies.rests_hold told c.args.self.now (g.D.Disk.content d) files s.ready (s.rests tells) ((g.met.D.Disk.images_now d files tells).0 i))
           c.from_residual.result c.from_residual.ensures.1 refl refl;
     }
 
