@@ -1,5 +1,5 @@
 -- What a log's entries and words come to in bytes, and that a disk is told to be full only of what it was given.
-use Rattle.std.proofs.Common.{◌≡◌, ℕ, ◌+◌, ◌*◌, ◌^◌, ◌<◌, ◌≤◌, inl, inr, Bool, List, [], ◌∷◌, ◌++◌, length, Some, refl, ap, arith, length-append}
+use Rattle.std.proofs.Common.{◌≡◌, ℕ, ◌+◌, ◌≤◌, inl, inr, Bool, List, [], ◌∷◌, ◌++◌, length, Some, ap, arith, length-append}
 use Rattle.std.specs.Prelude.{nat_lt}
 use Rattle.std.specs.List.{filter, flat_map}
 use Rattle.std.proofs.lemmas.Bool.{cond-true, cond-false, cases_Bool}
@@ -10,9 +10,7 @@ use Rattle.den_model.specs.Log.{Log, floor, below, changed, replaced}
 use Rattle.den_model.specs.Reading.{log_region_in}
 use Rattle.den_model.specs.Words.{IsBytes}
 use Rattle.den_model.specs.Spelling.{u64_word, entry_word, log_region_word}
-use Rattle.den_model.specs.Regions.{placed}
 use Rattle.den_model.specs.Sizes.{entries_size}
-use Rattle.den_model.proofs.Numbers.{length_u64_word}
 use Rattle.den_model.proofs.Spells.{word_iff}
 use Rattle.den_model.proofs.RegionSpells.{spells_log_region}
 use Rattle.den_store.specs.Folds.{words_size, append_size}

@@ -1,5 +1,5 @@
 -- What calls change of a log and of the hard state.
-use Rattle.std.specs.Prelude.{ℕ, Option, Some, length}
+use Rattle.std.specs.Prelude.{Option, Some, length}
 use Rattle.den_model.specs.declared.log_id.HardState.{HardState}
 use Rattle.den_model.specs.declared.region.LogRegion.{LogRegion}
 use Rattle.den_model.specs.Log.{Log, changed}

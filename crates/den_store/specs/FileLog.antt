@@ -1,5 +1,5 @@
 -- A log store over a journal.
-use Rattle.std.specs.Prelude.{ℕ, List}
+use Rattle.std.specs.Prelude.{ℕ}
 use Rattle.den_disk.specs.declared.place.Family.TheVariants.{Log as log_family}
 use Rattle.den_disk.specs.Place.{place_number}
 use Rattle.den_model.specs.Log.{Log, empty_log, log_from}

@@ -1,8 +1,7 @@
 -- A store of the hard state over a journal.
-use Rattle.std.specs.Prelude.{ℕ, List, Option, Some, None}
+use Rattle.std.specs.Prelude.{Option, None}
 use Rattle.den_disk.specs.declared.place.Family.TheVariants.{Meta as meta_family}
 use Rattle.den_model.specs.declared.log_id.HardState.{HardState}
-use Rattle.den_model.specs.Reading.{hard_state_in}
 use Rattle.den_model.specs.Image.{hard_state_from}
 use Rattle.den_journal.specs.Lies.{Lies, gives_own, gives_hold, held_own}
 use Rattle.den_journal.specs.Shown.{Held, Shown, shown_of, held_in}

@@ -1,5 +1,5 @@
-use Rattle.std.proofs.Common.{◌≡◌, ◌≤◌, ◌<◌, ◌+◌, List, length, true, Some, None, refl, ◌∙◌, sym, ap, arith}
-use Rattle.std.specs.Prelude.{◌&&◌, ◌==◌, nat_le, if◌then◌else◌}
+use Rattle.std.proofs.Common.{◌≤◌, ◌+◌, List, length, Some, None, refl, ◌∙◌, sym, ap, arith}
+use Rattle.std.specs.Prelude.{◌&&◌, nat_le, if◌then◌else◌}
 use Rattle.den_disk.specs.declared.place.Family.TheVariants.{Log as log_family}
 use Rattle.den_model.specs.Entries.{LogEntry, rise_from}
 use Rattle.den_model.specs.Log.{floor}
