@@ -63,7 +63,7 @@ module _ (slot : Place) (first : Content) (ps : List (List ℕ)) (end : ℕ) whe
         settled = λ k le h. ⊎_elim (λ here. absurd (omega (arith, here.1))) (b.settled k le) h;
       }
 
-  fitted : (len : ℕ) (file : List ℕ) → end ≤ len → Holds ps end file → Holds ps end (fit len file)
+  pub fitted : (len : ℕ) (file : List ℕ) → end ≤ len → Holds ps end file → Holds ps end (fit len file)
   fitted len file fits h = record {
     front = take-fit end len file fits (holds_long ps end file h) ∙ h.front;
     size = h.size;

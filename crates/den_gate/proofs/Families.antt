@@ -11,6 +11,7 @@ use Rattle.den_gate.specs.declared.gate.GateFile.{GateFile}
 use Rattle.den_gate.specs.Slot.{payloads_of, Holds}
 use Rattle.den_gate.specs.Steps.{IsFrom, Spares, Keeps, KeepsOrAdds}
 use Rattle.den_gate.specs.Gate.{payloads, IsAtRest, IsCurrent, HasList, KeepsFamily, KeepsOrAddsFamily}
+use Rattle.den_gate.specs.Draft.{IsDraft, draft_end, other_slot, FlipsFamily}
 use Rattle.den_gate.proofs.Written.{holds_regions}
 use Rattle.den_gate.proofs.Beside.{named_slot, whole, current_head}
 
@@ -82,6 +83,13 @@ rest_spared gate old new s rest =
       settled = λ k h. rest.settled k (s.pending gate.slot refl k h);
     }
 
+-- and its draft
+pub draft_spared : (gate : GateFile) (list : List (List ℕ)) (old new : Content) → SparesOwn gate.slot.family old new → IsDraft gate list old → IsDraft gate list new
+draft_spared gate list old new s d = record {
+  begun = d.begun;
+  holds = subst (λ (l : List ℕ). Holds list (draft_end gate) l) (sym (s.reading (other_slot gate.slot) refl)) d.holds;
+}
+
 pub current_spared : (slot : Place) (old new : Content) → SparesOwn slot.family old new → IsCurrent slot old → IsCurrent slot new
 current_spared slot old new s current = record {
   head = ap named (s.reading (head_of slot.family) refl) ∙ current.head;
@@ -133,5 +141,13 @@ pub adds_meaning : {X : Type 0} (holds : Files → Option X) (slot : Place) (lis
     → ((files : Files) → HasList slot list files → holds files ≡ Some old) → ((files : Files) → HasList slot (list ++ payload ∷ []) files → holds files ≡ Some new)
     → KeepsOrAddsFamily slot list payload images from to → OldOrNew holds images from to old new
 adds_meaning holds slot list payload images from to old new was is k = record {
+  each = λ t files low high i. ⊎_elim (λ h. inl (was files h)) (λ h. inr (is files h)) (k.each t files low high i);
+}
+
+-- and over one that puts another list in its place
+pub flips_meaning : {X : Type 0} (holds : Files → Option X) (slot other : Place) (list now : List (List ℕ)) (images : ℕ → Files → Type 0) (from to : ℕ) (old new : X)
+    → ((files : Files) → HasList slot list files → holds files ≡ Some old) → ((files : Files) → HasList other now files → holds files ≡ Some new)
+    → FlipsFamily slot other list now images from to → OldOrNew holds images from to old new
+flips_meaning holds slot other list now images from to old new was is k = record {
   each = λ t files low high i. ⊎_elim (λ h. inl (was files h)) (λ h. inr (is files h)) (k.each t files low high i);
 }

@@ -1,8 +1,10 @@
 pub mod Causes
+pub mod Draft
 pub mod Gate
 pub mod Loading
 pub mod Reader
 pub mod Reads
 pub mod Slot
 pub mod Steps
+pub mod Turning
 pub mod Window

@@ -1,8 +1,10 @@
 -- What the steps of a call make of one slot, and what they and a crash in them leave of the other files.
 use Rattle.std.specs.Prelude.{◌≡◌, ◌⊎◌, ◌≤◌, ◌<◌, ℕ, ◌+◌, Ok, List, [], ◌∷◌, ◌++◌}
+use Rattle.den_disk.specs.declared.place.Family.{Family}
 use Rattle.den_disk.specs.declared.place.Place.{Place}
 use Rattle.den_disk.specs.Files.{Files, Content, IsPending}
 use Rattle.den_disk.specs.Crash.{Leaves}
+use Rattle.den_disk.specs.Families.{SameBut, SparesOthers}
 use Rattle.den_model.specs.Regions.{regions, placed}
 use Rattle.den_gate.specs.Slot.{Holds, Staged}
 
@@ -30,6 +32,12 @@ pub record IsFrom (place : Place) (before : Files → Type 0) (files : Files) : 
   pub origin : Files
   pub was : before origin
   pub others : (q : Place) → (q ≡ place → ⊥) → files q ≡ origin q
+
+-- the other families' files as a crash before it might have left them
+pub record IsFromOthers (own : Family) (before : Files → Type 0) (files : Files) : Type 0 where
+  pub origin : Files
+  pub was : before origin
+  pub others : SameBut own origin files
 
 -- a crash leaves the slot's payloads, and nothing new in the other files
 pub record Keeps (slot : Place) (list : List (List ℕ)) (before : Files → Type 0) (files : Files) : Type 0 where
@@ -63,3 +71,13 @@ module _ {D : Type 0} (content : D → Content) (moment : D → ℕ) (images : D
   pub record RunKeepsOrAdds (slot : Place) (list : List (List ℕ)) (payload : List ℕ) (old new : D) : Type 0 where
     pub any_moment : Leaves content moment images (λ t files. KeepsOrAdds slot list payload (images old (moment old)) files) old new
     pub spares : Spares slot (content old) (content new)
+
+  -- calls that change one file alone
+  pub record RunSpares (place : Place) (old new : D) : Type 0 where
+    pub any_moment : Leaves content moment images (λ t files. IsFrom place (images old (moment old)) files) old new
+    pub spares : Spares place (content old) (content new)
+
+  -- calls that change the files of one family alone
+  pub record RunSparesOthers (own : Family) (old new : D) : Type 0 where
+    pub any_moment : Leaves content moment images (λ t files. IsFromOthers own (images old (moment old)) files) old new
+    pub spares : SparesOthers own (content old) (content new)

@@ -1,12 +1,14 @@
 //! A gate file: the slot that a family's head names, as a list of payloads.
-ghost use Rattle.std.specs.Prelude.{◌≤◌, ◌^◌};
+ghost use Rattle.std.specs.Prelude.{◌≤◌, ◌^◌, unwrap_or};
 
 use crate::GateError;
 use crate::add::add;
+use crate::draft::{clear, fill, push};
 use crate::find::{find_end, find_slot};
 use crate::reader::RegionReader;
 use crate::room::make_room;
 use crate::take::take_all;
+use crate::turn::{commit, other_of};
 use den_disk::{Disk, Family, Part, Place};
 use den_model::{Blob, Rows};
 use std::alloc::Global;
@@ -17,24 +19,28 @@ pub struct GateFile {
     slot: Place,
     end: u64,
     failed: bool,
+    // where the draft ends, if one stands
+    draft: Option<u64>,
     ghost low: { end ≤ 2 ^ 62 },
+    ghost draft_low: { unwrap_or draft 0 ≤ 2 ^ 62 },
 }
 
 impl GateFile {
-    ghost use Rattle.std.specs.Prelude.{◌≡◌, ◌+◌, ◌<◌, ℕ, List, [], ◌∷◌, ◌++◌, true, false, Err, IsTrue, IsErr, IfErr, IfOk, OnOk, length};
+    ghost use Rattle.std.specs.Prelude.{◌≡◌, ◌⊎◌, ◌+◌, ◌<◌, ℕ, List, [], ◌∷◌, ◌++◌, true, false, Err, Some, None, IsSome, is_some, IsTrue, IsErr, IfErr, IfOk, OnOk, length};
     ghost use Rattle.den_disk.specs.Files.{Files, Content};
     ghost use Rattle.den_disk.specs.Crash.{Leaves, Stays};
     ghost use Rattle.den_disk.specs.Goes.{DiskGoesOn, Rose};
     ghost use Rattle.den_disk.specs.Families.{SparesAll, SparesOthers, SparesImages, NoNewImages};
-    ghost use Rattle.den_model.specs.Regions.{regions};
+    ghost use Rattle.den_model.specs.Regions.{regions, open_regions};
     ghost use Rattle.den_model.specs.Image.{slot_of};
     ghost use Rattle.den_gate.specs.Causes.{Because};
-    ghost use Rattle.den_gate.specs.Slot.{Grows, IsShort, room_for};
+    ghost use Rattle.den_gate.specs.Slot.{Grows, IsShort, room_for, whole_chunks};
     ghost use Rattle.den_gate.specs.Steps.{Keeps, KeepsOrAdds, Spares};
     ghost use Rattle.den_gate.specs.Gate.{payloads, IsAtRest, IsCurrent, KeepsFamily, KeepsOrAddsFamily};
     ghost use Rattle.den_gate.specs.Loading.{IsDurable};
     ghost use Rattle.den_gate.specs.Reader.{StandsIn};
     ghost use Rattle.den_gate.specs.Reads.{OnlyReads};
+    ghost use Rattle.den_gate.specs.Draft.{draft_end, other_slot, IsDraft, KeepsList, RestsWith, Rewrites, Rewritten, WritesOwn};
 
     /// Finds where a family's list ends, with all files on the disk. It takes no memory and writes nothing.
     pub fn load<D: Disk>(family: Family, disk: &mut D) -> Result<GateFile, GateError>
@@ -47,6 +53,7 @@ impl GateFile {
         ensures spares { IsTrue (D.kind disk.old).tells → SparesAll (D.content disk.old) (D.content disk.new) }
         ensures images { IsTrue (D.kind disk.old).tells → NoNewImages (D.images disk.old) (D.images disk.new) (D.moment disk.old) (D.moment disk.new) }
         ensures ready { IfOk result (λ gate. gate.failed ≡ false) }
+        ensures draft { IfOk result (λ gate. gate.draft ≡ None) }
         ensures refused { IfErr result (Because ⊥ (Rose (D.faults disk.old) (D.faults disk.new)) (λ needed limit. ⊥) (λ part offset.
             IsTrue (D.kind disk.old).tells → (part ≡ (slot_of family (D.content disk.old).reading).part)
             × (regions ((D.content disk.old).reading (slot_of family (D.content disk.old).reading)) ≡ Err offset))) }
@@ -58,6 +65,7 @@ impl GateFile {
             slot,
             end,
             failed: false,
+            draft: None,
         })
     }
 
@@ -114,6 +122,8 @@ impl GateFile {
 
         ensures slot { self.new.slot ≡ self.old.slot }
         ensures end { self.new.end ≡ self.old.end }
+        ensures draft { self.new.draft ≡ self.old.draft }
+        ensures draft_kept { IsTrue (D.kind disk.old).tells → (list : List (List ℕ)) → IsDraft self.old list (D.content disk.old) → IsDraft self.new list (D.content disk.new) }
         ensures ready { OnOk result (self.new.failed ≡ false) }
         ensures failed { IsErr result → self.new.failed ≡ true }
         ensures refused { IfErr result (Because ⊥ (Rose (D.faults disk.old) (D.faults disk.new)) (λ needed limit.
@@ -156,6 +166,8 @@ impl GateFile {
 
         ensures slot { self.new.slot ≡ self.old.slot }
         ensures end { OnOk result (self.new.end ≡ self.old.end + (9 + length payload.now)) }
+        ensures draft { self.new.draft ≡ self.old.draft }
+        ensures draft_kept { IsTrue (D.kind disk.old).tells → (list : List (List ℕ)) → IsDraft self.old list (D.content disk.old) → IsDraft self.new list (D.content disk.new) }
         ensures ready { OnOk result (self.new.failed ≡ false) }
         ensures failed { IsErr result → self.new.failed ≡ true }
         ensures refused { IfErr result (Because ⊥ (Rose (D.faults disk.old) (D.faults disk.new)) (λ needed limit.
@@ -182,6 +194,8 @@ impl GateFile {
         ensures images { IsTrue (D.kind disk.old).tells → NoNewImages (D.images disk.old) (D.images disk.new) (D.moment disk.old) (D.moment disk.new) }
         ensures slot { self.new.slot ≡ self.old.slot }
         ensures end { self.new.end ≡ self.old.end }
+        ensures draft { self.new.draft ≡ self.old.draft }
+        ensures draft_kept { IsTrue (D.kind disk.old).tells → (list : List (List ℕ)) → IsDraft self.old list (D.content disk.old) → IsDraft self.new list (D.content disk.new) }
         ensures ready { OnOk result (self.new.failed ≡ false) }
         ensures failed { IsErr result → self.new.failed ≡ true }
         ensures refused { IfErr result (Because ⊥ (Rose (D.faults disk.old) (D.faults disk.new)) (λ needed limit. ⊥) (λ part offset. ⊥)) }
@@ -189,6 +203,107 @@ impl GateFile {
         let synced = disk.sync();
         self.failed = synced.is_err();
         Ok(synced?)
+    }
+
+    /// Begins a draft without a payload, in the slot that the head does not name; a draft that stood is gone. The list stays.
+    /// It takes no memory. After a fault of the disk the gate file is loaded anew.
+    pub fn draft_begin<D: Disk>(&mut self, disk: &mut D) -> Result<(), GateError>
+        requires ready { self.old.failed ≡ false }
+        ensures writes { WritesOwn D.Disk self.old self.new disk.old disk.new result }
+        ensures keeps { KeepsList D.Disk self.old self.new disk.old disk.new }
+        ensures begun { IsTrue (D.kind disk.old).tells → OnOk result (IsDraft self.new [] (D.content disk.new)) }
+        ensures draft { self.new.draft ≡ Some 0 }
+        ensures cleared { IsTrue (D.kind disk.old).tells → OnOk result ((D.content disk.new).reading (other_slot self.old.slot) ≡ []) }
+        ensures refused { IfErr result (Because ⊥ (Rose (D.faults disk.old) (D.faults disk.new)) (λ needed limit. ⊥) (λ part offset. ⊥)) }
+    {
+        self.draft = Some(0);
+        let cleared = clear(disk, other_of(self.slot));
+        self.failed = cleared.is_err();
+        cleared
+    }
+
+    /// Adds a payload to the draft. The list stays. It takes no memory. `Full` comes exactly where the draft's slot is short of
+    /// the room and the room would pass the disk's limit; then nothing is written.
+    pub fn draft_push<D: Disk>(&mut self, disk: &mut D, payload: &[u8]) -> Result<(), GateError>
+        requires ready { self.old.failed ≡ false }
+        requires drafting { IsSome self.old.draft }
+        ensures writes { WritesOwn D.Disk self.old self.new disk.old disk.new result }
+        ensures keeps { KeepsList D.Disk self.old self.new disk.old disk.new }
+        ensures pushed { IsTrue (D.kind disk.old).tells → (list : List (List ℕ)) → IsDraft self.old list (D.content disk.old)
+            → OnOk result (IsDraft self.new (list ++ payload.now ∷ []) (D.content disk.new)) }
+        ensures draft { OnOk result (self.new.draft ≡ Some (draft_end self.old + (9 + length payload.now))) }
+        ensures refused { IfErr result (Because ⊥ (Rose (D.faults disk.old) (D.faults disk.new)) (λ needed limit.
+            (needed ≡ room_for (draft_end self.old) (length payload.now)) × (limit ≡ (D.kind disk.old).limit) × (limit < needed) × (2 ^ 43 ≤ limit)
+            × (IsTrue (D.kind disk.old).tells → IsShort ((D.content disk.old).reading (other_slot self.old.slot)) (draft_end self.old) (length payload.now)
+            × Stays D.content D.moment D.images disk.old disk.new))
+            (λ part offset. ⊥)) }
+        ensures not_full { IsTrue (D.kind disk.old).tells → OnOk result (IsShort ((D.content disk.old).reading (other_slot self.old.slot)) (draft_end self.old) (length payload.now)
+            → room_for (draft_end self.old) (length payload.now) ≤ (D.kind disk.old).limit) }
+    {
+        let end = self.draft.unwrap_or(0);
+        self.failed = true;
+        push(disk, other_of(self.slot), end, payload)?;
+        self.failed = false;
+        self.draft = Some(end + (9 + payload.len() as u64));
+        Ok(())
+    }
+
+    /// Makes the draft the list, in the slot where it lies; no draft is left, and no byte in the old slot. It takes no memory.
+    /// After a fault of the disk the list is the old one or the draft, as the gate file that is loaded anew says.
+    pub fn draft_commit<D: Disk>(&mut self, disk: &mut D) -> Result<(), GateError>
+        requires ready { self.old.failed ≡ false }
+        requires drafting { IsSome self.old.draft }
+        ensures writes { WritesOwn D.Disk self.old self.new disk.old disk.new result }
+        ensures rewrites { IsTrue (D.kind disk.old).tells → (list : List (List ℕ)) → IsDraft self.old list (D.content disk.old)
+            → IsAtRest self.old (D.content disk.old) → IsCurrent self.old.slot (D.content disk.old) → Rewrites D.Disk self.old self.new disk.old disk.new list }
+        ensures rests { IsTrue (D.kind disk.old).tells → (list : List (List ℕ)) → IsDraft self.old list (D.content disk.old)
+            → IsCurrent self.old.slot (D.content disk.old) → OnOk result (RestsWith self.new list (D.content disk.new)) }
+        ensures rewritten { OnOk result (Rewritten D.Disk self.old self.new disk.old disk.new (draft_end self.old)) }
+        ensures refused { IfErr result (Because ⊥ (Rose (D.faults disk.old) (D.faults disk.new)) (λ needed limit. ⊥) (λ part offset. ⊥)) }
+    {
+        let end = self.draft.unwrap_or(0);
+        self.failed = true;
+        commit(disk, self.slot)?;
+        self.failed = false;
+        self.slot = other_of(self.slot);
+        self.end = end;
+        self.draft = None;
+        Ok(())
+    }
+
+    /// Makes these payloads the list, by way of the slot that the head does not name; a draft that stood is gone, and no byte is
+    /// left in the old slot. It takes no memory. After a fault of the disk the list is the old one or this one, as the gate file
+    /// that is loaded anew says. `Full` comes exactly where the room for the list would pass the disk's limit.
+    pub fn rewrite<D: Disk>(&mut self, disk: &mut D, list: &[Blob]) -> Result<(), GateError>
+        requires ready { self.old.failed ≡ false }
+        requires at_rest { IsTrue (D.kind disk.old).tells → IsAtRest self.old (D.content disk.old) }
+        requires current { IsTrue (D.kind disk.old).tells → IsCurrent self.old.slot (D.content disk.old) }
+        ensures writes { WritesOwn D.Disk self.old self.new disk.old disk.new result }
+        ensures rewrites { IsTrue (D.kind disk.old).tells → Rewrites D.Disk self.old self.new disk.old disk.new list.now }
+        ensures rests { IsTrue (D.kind disk.old).tells → OnOk result (RestsWith self.new list.now (D.content disk.new)) }
+        ensures rewritten { OnOk result (Rewritten D.Disk self.old self.new disk.old disk.new (length (open_regions list.now))) }
+        ensures draft { self.new.draft ≡ None }
+        ensures refused { IfErr result (Because ⊥ (Rose (D.faults disk.old) (D.faults disk.new)) (λ needed limit.
+            (needed ≤ whole_chunks (length (open_regions list.now) + 1)) × (limit ≡ (D.kind disk.old).limit) × (limit < needed) × (2 ^ 43 ≤ limit)) (λ part offset. ⊥)) }
+        ensures not_full { IsTrue (D.kind disk.old).tells → OnOk result ((length (open_regions list.now) ≡ 0)
+            ⊎ (whole_chunks (length (open_regions list.now) + 1) ≤ (D.kind disk.old).limit)) }
+    {
+        self.draft = None;
+        self.failed = true;
+        let other = other_of(self.slot);
+        let end = fill(disk, other, list)?;
+        commit(disk, self.slot)?;
+        self.failed = false;
+        self.slot = other;
+        self.end = end;
+        Ok(())
+    }
+
+    /// Whether a draft stands.
+    pub fn has_draft(&self) -> bool
+        ensures { result ≡ is_some self.now.draft }
+    {
+        self.draft.is_some()
     }
 
     /// Whether a call that changes it was refused. It is loaded anew then.

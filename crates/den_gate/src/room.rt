@@ -3,8 +3,8 @@ ghost use Rattle.std.specs.Prelude.{◌≡◌, ◌+◌, ◌-◌, ◌≤◌, ◌<
 ghost use Rattle.den_disk.specs.Crash.{Stays};
 ghost use Rattle.den_disk.specs.Goes.{Rose};
 ghost use Rattle.den_gate.specs.Causes.{Because};
-ghost use Rattle.den_gate.specs.Slot.{Grows, IsShort, room_for, whole_chunks};
-ghost use Rattle.den_gate.specs.Steps.{IsOpen, RunKeeps};
+ghost use Rattle.den_gate.specs.Slot.{Grows, Holds, IsShort, room_for, whole_chunks};
+ghost use Rattle.den_gate.specs.Steps.{IsOpen, RunKeeps, RunSpares};
 
 use crate::GateError;
 use den_disk::{Disk, Place};
@@ -23,6 +23,9 @@ pub fn make_room<D: Disk>(disk: &mut D, slot: Place, end: u64, size: u64) -> Res
     ensures grows { IsTrue (D.kind disk.old).tells → OnOk result (Grows ((D.content disk.old).reading slot) ((D.content disk.new).reading slot) end size) }
     ensures run { IsTrue (D.kind disk.old).tells → (list : List (List ℕ)) → IsOpen slot list end (D.content disk.old)
         → RunKeeps D.content D.moment D.images slot list disk.old disk.new }
+    ensures holds { IsTrue (D.kind disk.old).tells → (list : List (List ℕ)) → Holds list end ((D.content disk.old).reading slot) → OnOk result (
+        Holds list end ((D.content disk.new).reading slot)) }
+    ensures alone { IsTrue (D.kind disk.old).tells → RunSpares D.content D.moment D.images slot disk.old disk.new }
     ensures refused { IfErr result (Because ⊥ (Rose (D.faults disk.old) (D.faults disk.new)) (λ needed limit.
         (needed ≡ room_for end size) × (limit ≡ (D.kind disk.old).limit) × (limit < needed) × (2 ^ 43 ≤ limit)
         × (IsTrue (D.kind disk.old).tells → IsShort ((D.content disk.old).reading slot) end size × Stays D.content D.moment D.images disk.old disk.new))

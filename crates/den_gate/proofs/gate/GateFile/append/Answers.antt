@@ -3,6 +3,8 @@ use Rattle.den_gate.specs.Slot.{payloads_of}
 use Rattle.den_gate.specs.Steps.{KeepsOrAdds}
 use Rattle.den_gate.proofs.Written.{at_rest}
 use Rattle.den_gate.proofs.Families.{images_spared, family_adds}
+use Rattle.den_gate.specs.Draft.{draft_end}
+use Rattle.den_gate.proofs.Drafts.{draft_beside}
 use Rattle.den_gate.proofs.gate.GateFile.append.Goals as goal
 
 pub returns-in_err-add-clause-family : goal.returns-in_err-add-clause-family
@@ -50,3 +52,17 @@ returns-clause-appended g c = λ tells.
     let p = c.args.payload.now in
     let ps = payloads_of ((g.D.Disk.content c.args.disk.now).reading slot) in
     (at_rest slot (ps ++ p ∷ []) (c.args.self.now.end + (9 + length p)) (g.D.Disk.content c.add.new.disk) (c.in_ok-add.ensures.open tells ps (c.requires.at_rest tells))).1
+
+pub returns-in_err-add-clause-draft_kept : goal.returns-in_err-add-clause-draft_kept
+returns-in_err-add-clause-draft_kept g c = λ tells list d.
+    let d0 = c.args.disk.now in
+    let slot = c.args.self.now.slot in
+    let ps = payloads_of ((g.D.Disk.content d0).reading slot) in
+    record { begun = d.begun; holds = draft_beside slot list (draft_end c.args.self.now) (g.D.Disk.content d0) (g.D.Disk.content c.add.new.disk) (c.add.ensures.run tells ps (c.requires.at_rest tells)).spares d.holds }
+
+pub returns-clause-draft_kept : goal.returns-clause-draft_kept
+returns-clause-draft_kept g c = λ tells list d.
+    let d0 = c.args.disk.now in
+    let slot = c.args.self.now.slot in
+    let ps = payloads_of ((g.D.Disk.content d0).reading slot) in
+    record { begun = d.begun; holds = draft_beside slot list (draft_end c.args.self.now) (g.D.Disk.content d0) (g.D.Disk.content c.add.new.disk) (c.add.ensures.run tells ps (c.requires.at_rest tells)).spares d.holds }
