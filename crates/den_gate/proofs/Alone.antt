@@ -2,7 +2,7 @@
 use Rattle.std.proofs.Common.{◌≡◌, ◌↔◌, ℕ, IsTrue, List, Result, length, sym, ◌∙◌, subst}
 use Rattle.den_disk.specs.declared.disk.Disk.{Ghosts}
 use Rattle.den_disk.specs.declared.place.Place.{Place}
-use Rattle.den_disk.specs.Files.{Files, Kind, Content, IsImage, torn, resized}
+use Rattle.den_disk.specs.Files.{Files, Kind, IsImage, torn, resized}
 use Rattle.den_disk.specs.Crash.{Stays, Changes, IsWritten, IsHalfWritten, IsResized, IsSynced, IsEither}
 use Rattle.den_gate.specs.Steps.{RunSpares}
 use Rattle.den_gate.proofs.Beside.{spares_start}

@@ -1,14 +1,14 @@
 -- What drafts and rewrites make of a gate file.
-use Rattle.std.proofs.Common.{◌≡◌, ◌⊎◌, inl, inr, ⊎_elim, ◌↔◌, ℕ, ◌≤◌, IsTrue, IsErr, OnOk, true, false, Ok, Some, Option, Result, List, refl, sym, ◌∙◌, ap, subst}
+use Rattle.std.proofs.Common.{◌≡◌, ℕ, ◌≤◌, IsTrue, IsErr, OnOk, true, false, Result, List, refl, sym, ◌∙◌, ap, subst}
 use Rattle.den_disk.specs.declared.disk.Disk.{Ghosts}
 use Rattle.den_disk.specs.declared.place.Place.{Place}
-use Rattle.den_disk.specs.Files.{Files, Kind, Content, IsImage}
-use Rattle.den_model.specs.Regions.{regions, placed}
+use Rattle.den_disk.specs.Files.{Kind, Content}
+use Rattle.den_model.specs.Regions.{regions}
 use Rattle.den_model.specs.Image.{named, head_of}
 use Rattle.den_gate.specs.declared.gate.GateFile.{GateFile}
 use Rattle.den_gate.specs.Slot.{Holds, payloads_of}
-use Rattle.den_gate.specs.Steps.{IsSettled, IsOpen, Spares, IsFromOthers, RunSpares, RunSparesOthers}
-use Rattle.den_gate.specs.Gate.{IsCurrent, HasList, KeepsFamily}
+use Rattle.den_gate.specs.Steps.{IsOpen, Spares, IsFromOthers, RunSpares, RunSparesOthers}
+use Rattle.den_gate.specs.Gate.{IsCurrent}
 use Rattle.den_gate.specs.Draft.{other_slot, KeepsList, RestsWith, Rewrites, WritesOwn}
 use Rattle.den_gate.specs.Turning.{Drafted}
 use Rattle.den_gate.proofs.Written.{at_rest, holds_regions}

@@ -1,12 +1,12 @@
 -- What a crash leaves while a family turns from one slot to the other.
-use Rattle.std.proofs.Common.{◌≡◌, ◌⊎◌, inl, inr, ⊎_elim, ℕ, IsTrue, Ok, List, [], ◌∷◌, Result, refl, sym, ◌∙◌, ap, subst, arith}
+use Rattle.std.proofs.Common.{◌≡◌, ◌⊎◌, inl, inr, ⊎_elim, ℕ, IsTrue, Ok, List, Result, refl, sym, ◌∙◌, ap, subst, arith}
 use Rattle.den_disk.specs.declared.disk.Disk.{Ghosts}
 use Rattle.den_disk.specs.declared.place.Part.TheVariants.{Head}
 use Rattle.den_disk.specs.declared.place.Place.{Place}
 use Rattle.den_disk.specs.declared.place.Family.{Family}
 use Rattle.den_disk.specs.Files.{Files, Kind, Content, IsImage, synced}
 use Rattle.den_disk.specs.Crash.{Changes, Leaves, IsSynced}
-use Rattle.den_disk.specs.Families.{SparesAll, SparesOthers, SparesImages}
+use Rattle.den_disk.specs.Families.{SparesOthers, SparesImages}
 use Rattle.den_disk.proofs.Moments.{and_then, weaker}
 use Rattle.den_model.specs.Regions.{regions, placed}
 use Rattle.den_model.specs.Image.{named, head_of}
@@ -15,7 +15,6 @@ use Rattle.den_gate.specs.Steps.{IsSettled, IsOpen, Spares, IsFrom, IsFromOthers
 use Rattle.den_gate.specs.Gate.{IsCurrent, HasList}
 use Rattle.den_gate.specs.Draft.{other_slot, Flips}
 use Rattle.den_gate.specs.Turning.{Drafted}
-use Rattle.den_gate.proofs.Written.{holds_regions}
 use Rattle.den_gate.proofs.Beside.{from_same}
 use Rattle.den_gate.proofs.Families.{has_list, spares_others}
 use Rattle.den_gate.proofs.Settling.{Settles, settles_sync}

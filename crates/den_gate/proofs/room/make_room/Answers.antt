@@ -1,8 +1,6 @@
-use Rattle.std.proofs.Common.{◌≡◌, ◌≤◌, inl, inr, length, ap, ◌∙◌, IsTrue, sym, subst, arith}
-use Rattle.den_disk.specs.Files.{Files, Content, fit}
-use Rattle.den_disk.proofs.Places.{change-here}
-use Rattle.den_disk.proofs.Images.{length-fit}
-use Rattle.den_gate.specs.Slot.{Holds, room_for}
+use Rattle.std.proofs.Common.{◌≤◌, IsTrue, sym, subst, arith}
+use Rattle.den_disk.specs.Files.{Files, Content}
+use Rattle.den_gate.specs.Slot.{Holds}
 use Rattle.den_gate.specs.Steps.{IsOpen}
 use Rattle.den_gate.proofs.Calm.{open_resized}
 use Rattle.den_gate.proofs.Runs.{ran_start, ran_stays, ran_resizes, ran_keeps}

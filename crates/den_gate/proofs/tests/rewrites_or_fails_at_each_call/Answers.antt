@@ -1,5 +1,5 @@
 use Rattle.std.proofs.Common.{sym, subst}
-use Rattle.den_gate.specs.Gate.{IsAtRest, IsCurrent}
+use Rattle.den_gate.specs.Gate.{IsAtRest}
 use Rattle.den_gate.proofs.tests.rewrites_or_fails_at_each_call.Goals as goal
 
 pub rewrite-made-requires-clause-at_rest : goal.rewrite-made-requires-clause-at_rest

@@ -1,4 +1,4 @@
-use Rattle.std.proofs.Common.{refl, sym, ◌∙◌, ap, rules}
+use Rattle.std.proofs.Common.{refl, ap, rules}
 use Rattle.den_disk.specs.declared.place.Place.{Place}
 use Rattle.den_gate.specs.Slot.{payloads_of}
 use Rattle.den_gate.specs.Draft.{draft_end, other_slot}
