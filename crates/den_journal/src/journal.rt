@@ -15,10 +15,11 @@ use std::alloc::Global;
 /// A family's gate file, and in memory the value that its regions give.
 #[derive(Drop)]
 pub struct Journal<F> {
-    alloc: Global,
     gate: GateFile,
     held: F,
     failed: bool,
+    // The word of the last region: its memory is used again.
+    word: Vec<u8>,
 }
 
 impl<F: Folded> Journal<F> {
@@ -33,10 +34,10 @@ impl<F: Folded> Journal<F> {
         let place = file_number(F::FAMILY, gate.part());
         let held = replay(alloc, disk, &gate, place)?;
         Ok(Journal {
-            alloc,
             gate,
             held,
             failed: false,
+            word: Vec::new(alloc),
         })
     }
 
@@ -51,10 +52,10 @@ impl<F: Folded> Journal<F> {
             payloads self.new.gate (D.content disk.new).reading ≡ payloads self.old.gate (D.content disk.old).reading ++ F.Region.word region ∷ []) }
         ensures slot { self.new.gate.slot ≡ self.old.gate.slot }
     {
-        let mut word = Vec::new(self.alloc);
-        region.write(&mut word)?;
+        self.word.clear();
+        region.write(&mut self.word)?;
         self.held.make_room(&region)?;
-        match self.gate.append(disk, word.as_slice()) {
+        match self.gate.append(disk, self.word.as_slice()) {
             Ok(()) => {
                 self.failed = true;
                 self.held.settle(region)?;

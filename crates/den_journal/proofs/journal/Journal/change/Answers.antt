@@ -50,7 +50,7 @@ returns-in_ok-settle-in-Ok-clause-writes g c =
     let w = F.changed v c.args.region in
     let p = c.as_slice.result.now in
     let list = payloads j.gate (D.content d).reading in
-    let word : p ≡ g.F.Region.Word.word c.args.region = c.as_slice.ensures.value ∙ c.in_ok-write.ensures.ok ∙ ap (λ (x : List ℕ). x ++ g.F.Region.Word.word c.args.region) c.new-word.ensures.items in
+    let word : p ≡ g.F.Region.Word.word c.args.region = c.as_slice.ensures.value ∙ c.in_ok-write.ensures.ok ∙ ap (λ (x : List ℕ). x ++ g.F.Region.Word.word c.args.region) c.clear.ensures.items in
     let next : F.after v p ≡ Some w = ap (F.after v) word ∙ g.met.F.Folded.again v c.args.region c.requires.lawful c.in_ok-write.ensures.fits in
     let value : F.value c.settle.new.self ≡ w = c.in_ok-settle-in-Ok.ensures.settled ∙ ap (λ x. F.changed x c.args.region) c.make_room.ensures.same in
     record {
@@ -84,7 +84,7 @@ returns-in_err-settle-in-Ok-clause-writes g c =
     let w = F.changed v c.args.region in
     let p = c.as_slice.result.now in
     let list = payloads j.gate (D.content d).reading in
-    let word : p ≡ g.F.Region.Word.word c.args.region = c.as_slice.ensures.value ∙ c.in_ok-write.ensures.ok ∙ ap (λ (x : List ℕ). x ++ g.F.Region.Word.word c.args.region) c.new-word.ensures.items in
+    let word : p ≡ g.F.Region.Word.word c.args.region = c.as_slice.ensures.value ∙ c.in_ok-write.ensures.ok ∙ ap (λ (x : List ℕ). x ++ g.F.Region.Word.word c.args.region) c.clear.ensures.items in
     let next : F.after v p ≡ Some w = ap (F.after v) word ∙ g.met.F.Folded.again v c.args.region c.requires.lawful c.in_ok-write.ensures.fits in
     writes_lost D F.FAMILY (held_in F.FAMILY (F.from F.empty)) _ _ _ d new c.from_residual-in_err-settle-in-Ok.result c.from_residual-in_err-settle-in-Ok.ensures.1 c.append.ensures.disk
     (λ tells. let r = c.requires.stands.rests tells in
@@ -118,7 +118,7 @@ returns-in-Err-clause-writes g c =
     let list = payloads j.gate (D.content d).reading in
     let was = shown_of F.FAMILY (F.from F.empty) j.failed j.gate v in
     let now = shown_of F.FAMILY (F.from F.empty) j.failed c.append.new.self (F.value c.make_room.new.self) in
-    let word : p ≡ g.F.Region.Word.word c.args.region = c.as_slice.ensures.value ∙ c.in_ok-write.ensures.ok ∙ ap (λ (x : List ℕ). x ++ g.F.Region.Word.word c.args.region) c.new-word.ensures.items in
+    let word : p ≡ g.F.Region.Word.word c.args.region = c.as_slice.ensures.value ∙ c.in_ok-write.ensures.ok ∙ ap (λ (x : List ℕ). x ++ g.F.Region.Word.word c.args.region) c.clear.ensures.items in
     let next : F.after v p ≡ Some w = ap (F.after v) word ∙ g.met.F.Folded.again v c.args.region c.requires.lawful c.in_ok-write.ensures.fits in
     let change = region_change F v c.args.region (g.F.Region.Word.word c.args.region) in
     let held = held_in F.FAMILY (F.from F.empty) in
@@ -145,5 +145,5 @@ pub returns-in_ok-settle-in-Ok-clause-appended : goal.returns-in_ok-settle-in-Ok
 returns-in_ok-settle-in-Ok-clause-appended g c = λ tells.
     let list = payloads c.args.self.now.gate (g.D.Disk.content c.args.disk.now).reading in
     let p = c.as_slice.result.now in
-    let word : p ≡ g.F.Region.Word.word c.args.region = c.as_slice.ensures.value ∙ c.in_ok-write.ensures.ok ∙ ap (λ (x : List ℕ). x ++ g.F.Region.Word.word c.args.region) c.new-word.ensures.items in
+    let word : p ≡ g.F.Region.Word.word c.args.region = c.as_slice.ensures.value ∙ c.in_ok-write.ensures.ok ∙ ap (λ (x : List ℕ). x ++ g.F.Region.Word.word c.args.region) c.clear.ensures.items in
     c.in-Ok.ensures.appended tells ∙ ap (λ (x : List ℕ). list ++ x ∷ []) word
