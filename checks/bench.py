@@ -1,10 +1,11 @@
 #!/usr/bin/env python3
 """Measures the built server on this machine, beside what the machine itself can do.
 
-Prints durable puts a second one by one, where each waits for its reply, and with all frames sent at once; reads a second in the
-same two ways; how long an opening takes, how large the folder is and how much memory the server took after so many keys; and
-the instructions of a put where valgrind is there. In front of them it prints the machine's floor: appends of the bytes of a put
-with one fdatasync each, in the same folder. All that is compared is measured in one run, since a disk's speed varies by the hour.
+Prints durable puts a second one by one, where each waits for its reply, and with all frames sent at once; reads a second in
+the same two ways; how long an opening takes, how large the folder is and how much memory the server took after so many keys;
+and the instructions of a put, of a new key and of one that is held, where valgrind is there. In front of them it prints the
+machine's floor: appends of the bytes of a put with one fdatasync each, in the same folder. All that is compared is measured
+in one run, since a disk's speed varies by the hour.
 
 It is run by hand, and no gate reads its numbers. With the sizes that it has by itself it takes a few minutes at most: each
 measure ends after the seconds that are given, and a number of keys that is not reached in their twentyfold is left out.
@@ -160,23 +161,28 @@ def opening(program, room, count, limit):
     shutil.rmtree(folder)
 
 
-def instructions(program, room, count):
-    """The instructions of a run of so many puts."""
+def instructions(program, room, numbers):
+    """The instructions of a run that puts the keys of these numbers."""
     told = os.path.join(room, "callgrind")
+    folder = os.path.join(room, "counted")
     words = ["valgrind", "--quiet", "--tool=callgrind", f"--callgrind-out-file={told}"]
-    served(program, os.path.join(room, f"counted{count}"), puts(range(count)), words=words)
+    served(program, folder, puts(numbers), words=words)
+    shutil.rmtree(folder)
     with open(told, encoding="utf-8", errors="replace") as file:
         found = re.search(r"^(?:summary|totals): (\d+)", file.read(), re.M)
     return int(found[1]) if found else stop("callgrind tells no sum")
 
 
 def counted(program, room):
-    """Prints the instructions of a put: what 500 puts more cost, behind an opening and a first hundred."""
+    """Prints the instructions of a put: what 500 more cost, from their frames to their part of the end, behind a hundred first ones."""
     if not shutil.which("valgrind"):
         print("             instructions of a put were not counted: there is no valgrind")
         return
-    each = (instructions(program, room, 600) - instructions(program, room, 100)) / 500
-    print(f"{each:12,.0f}  instructions of a put, by callgrind")
+    first = list(range(100))
+    before = instructions(program, room, first)
+    for what, more in (("a new key", range(100, 600)), ("a key that is held", first * 5)):
+        each = (instructions(program, room, [*first, *more]) - before) / 500
+        print(f"{each:12,.0f}  instructions of a put of {what}, by callgrind", flush=True)
 
 
 def options():

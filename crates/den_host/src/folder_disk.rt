@@ -169,6 +169,7 @@ where
     }
 
     // The first call opens the folder.
+    #[inline(always)]
     fn open(&mut self) -> Result<(), Cause> {
         match self.handle {
             Some(_) => Ok(()),
@@ -177,6 +178,8 @@ where
     }
 
     // Makes the folder, takes its lock and opens the files that are there.
+    #[cold]
+    #[inline(never)]
     fn open_first(&mut self) -> Result<(), Cause> {
         if self.path.is_empty() {
             return Err(Cause::NoName);
@@ -190,17 +193,22 @@ where
     }
 
     // The file of a place, which is made where it is missing.
+    #[inline(always)]
     fn made(&mut self, place: Place) -> Result<&mut PlaceFile<R::File>, Cause> {
         self.open()?;
         let slot = self.files.at(place);
         let file = match slot {
             Some(file) => file,
             None => {
-                if let Some(handle) = &mut self.handle {
-                    handle.note_length();
-                }
                 let path = Path::new(self.path.as_str());
-                slot.insert(PlaceFile::make(&self.rt, *self.path.allocator(), path, place)?)
+                make_place(
+                    &self.rt,
+                    path,
+                    *self.path.allocator(),
+                    place,
+                    &mut self.handle,
+                    slot,
+                )?
             }
         };
         sync_names(&mut self.handle)?;
@@ -208,11 +216,36 @@ where
     }
 }
 
-// Makes the names of new files last.
+// Makes the file of a place, and notes that the folder has a new name.
+#[cold]
+#[inline(never)]
+fn make_place<'a, R: Files>(
+    rt: &R,
+    folder: Path<'_>,
+    alloc: Global,
+    place: Place,
+    handle: &mut Option<PlaceFile<R::File>>,
+    slot: &'a mut Option<PlaceFile<R::File>>,
+) -> Result<&'a mut PlaceFile<R::File>, Cause> {
+    if let Some(handle) = handle {
+        handle.note_length();
+    }
+    Ok(slot.insert(PlaceFile::make(rt, alloc, folder, place)?))
+}
+
+// Makes the names of new files last, where there are any.
+#[inline(always)]
 fn sync_names<F: OpenFile>(handle: &mut Option<PlaceFile<F>>) -> Result<(), Cause> {
-    let Some(handle) = handle else {
-        return Ok(());
-    };
+    match handle {
+        Some(handle) if handle.is_unsynced() => sync_folder(handle),
+        _ => Ok(()),
+    }
+}
+
+// Makes the names in the folder last.
+#[cold]
+#[inline(never)]
+fn sync_folder<F: OpenFile>(handle: &mut PlaceFile<F>) -> Result<(), Cause> {
     match handle.sync() {
         Ok(()) => Ok(()),
         Err(e) => Err(handle.cause(None, e)),

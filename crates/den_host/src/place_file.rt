@@ -1,5 +1,5 @@
 // The open files of a folder, and which of them were written since they were last synced.
-ghost use Rattle.std.specs.Prelude.{◌≡◌, OnOk, OnErr, IsErr};
+ghost use Rattle.std.specs.Prelude.{◌≡◌, ◌↔◌, false, OnOk, OnErr, IsErr};
 
 use crate::cause::Cause;
 use den_disk::{Family, Part, Place};
@@ -75,6 +75,13 @@ impl<F> PlaceFile<F> {
             Unsynced::Lost => Cause::Sync(place, error.into()),
             _ => Cause::Call(place, error.into()),
         }
+    }
+
+    // Whether a sync has something to do, or has failed.
+    pub(crate) fn is_unsynced(&self) -> bool
+        ensures { (result ≡ false) ↔ (self.now.unsynced ≡ Unsynced.Nothing) }
+    {
+        !matches!(self.unsynced, Unsynced::Nothing)
     }
 
     // Notes that a sync has to take more than bytes: names in a folder, or a length.
@@ -234,6 +241,7 @@ impl<F> Three<F> {
 }
 
 impl<F: OpenFile> Three<F> {
+    #[inline(always)]
     fn sync(&mut self, family: Family) -> Result<(), Cause> {
         sync_one(&mut self.head, family, Part::Head)?;
         sync_one(&mut self.a, family, Part::A)?;
@@ -241,18 +249,26 @@ impl<F: OpenFile> Three<F> {
     }
 }
 
-// Makes last what was written in a file since its last sync, where it is there.
+// Makes last what was written in a file since its last sync, where it is there. It is inlined, so that a sync costs a
+// comparison for each file that was not written.
+#[inline(always)]
 fn sync_one<F: OpenFile>(
     file: &mut Option<PlaceFile<F>>,
     family: Family,
     part: Part,
 ) -> Result<(), Cause> {
-    let Some(file) = file else {
-        return Ok(());
-    };
+    match file {
+        Some(file) if file.is_unsynced() => sync_place(file, Place { family, part }),
+        _ => Ok(()),
+    }
+}
+
+// Makes last what was written in the file of a place since its last sync.
+#[inline(never)]
+fn sync_place<F: OpenFile>(file: &mut PlaceFile<F>, place: Place) -> Result<(), Cause> {
     match file.sync() {
         Ok(()) => Ok(()),
-        Err(e) => Err(file.cause(Some(Place { family, part }), e)),
+        Err(e) => Err(file.cause(Some(place), e)),
     }
 }
 
