@@ -1,5 +1,5 @@
 -- A chunk that a state machine turned away, or applied.
-use Rattle.std.proofs.Common.{◌≡◌, ◌≤◌, ◌+◌, ◌<◌, ℕ, Bool, true, false, List, [], ◌∷◌, Option, Some, None, Result, Ok, Err, OnOk, IfErr, refl, sym, subst}
+use Rattle.std.proofs.Common.{◌≡◌, ◌≤◌, ◌+◌, ℕ, arith, Bool, true, false, List, [], ◌∷◌, Option, Some, None, Result, Ok, Err, OnOk, IfErr, refl, sym, subst}
 use Rattle.std.specs.Prelude.{IfSome, if◌then◌else◌}
 use Rattle.std.proofs.lemmas.Result.{on_ok_weaker, IfErr-weaker}
 use Rattle.den_disk.specs.declared.disk.Disk.{Ghosts}
@@ -7,14 +7,16 @@ use Rattle.den_disk.specs.declared.place.Family.TheVariants.{State as state_fami
 use Rattle.den_disk.specs.Files.{Files, Content}
 use Rattle.den_codec.specs.declared.error.Error.{Error}
 use Rattle.den_codec.specs.declared.error.Error.TheVariants as error
-use Rattle.den_codec.specs.Full.{IsHeavy}
+use Rattle.den_core.specs.Full.{IsFullBy}
+use Rattle.den_core.proofs.Weighing.{full_by}
+use Rattle.den_state.proofs.Weighing.{light_chunk}
 use Rattle.den_model.specs.Entries.{LogEntry}
 use Rattle.den_model.specs.MapState.{MapState, map_applied_all}
 use Rattle.den_model.specs.Sizes.{entries_size, store_rise}
 use Rattle.den_map.specs.Leases.{lacks_lease}
 use Rattle.den_map.specs.Order.{out_of_order}
 use Rattle.den_journal.specs.Causes.{IsRefusal}
-use Rattle.den_journal.specs.Shown.{Shown}
+use Rattle.den_journal.specs.Shown.{Held, Shown}
 use Rattle.den_journal.specs.Writes.{Faulted, GoesOn, Moves, Tells, Writes}
 use Rattle.den_journal.proofs.Moving.{goes_nowhere, moves_nothing}
 use Rattle.den_state.specs.Changes.{chunk_change}
@@ -50,9 +52,9 @@ module _ (leased : Bool) (mark : ℕ) (chunk : List LogEntry) where
         | None ↦ λ at some. let lease = lease_refusal (lacks_lease leased chunk) e some in subst P (sym lease.0) (at, lease.1)
       ] refl is
 
-  pub turned_light : (most weight : ℕ) (e : Error) → refusal_of_chunk leased mark chunk ≡ Some e → IsHeavy most weight e
+  pub turned_light : (most weight : ℕ) (e : Error) → refusal_of_chunk leased mark chunk ≡ Some e → IsFullBy most weight e
   turned_light most weight e is =
-      let P : Error → Type 0 = IsHeavy most weight in
+      let P : Error → Type 0 = IsFullBy most weight in
       elim (out_of_order mark chunk) as (λ o. by_order o ≡ Some e → P e) [
         | Some index ↦ λ some. let is : error.UnorderedChunk index ≡ e = cc some in subst P is tt
         | None ↦ λ some. let lease = lease_refusal (lacks_lease leased chunk) e some in subst P (sym lease.0) tt
@@ -66,7 +68,7 @@ module _ (leased : Bool) (mark : ℕ) (chunk : List LogEntry) where
 
 -- ---- what the call leaves
 
-module _ {D T : Type 0} (disk : Ghosts D) (holds : Files → Option MapState) (was now : Shown MapState) (old new : D) (leased : Bool) (mark : ℕ) (chunk : List LogEntry) (same : Type 0) (result : Result T Error)
+module _ {D T : Type 0} (disk : Ghosts D) (holds : Held MapState) (was now : Shown MapState) (old new : D) (leased : Bool) (mark : ℕ) (chunk : List LogEntry) (same : Type 0) (result : Result T Error)
     (away : IfSome (refusal_of_chunk leased mark chunk) (λ e. (result ≡ Err e) × same × (new ≡ old)))
     (writes : refusal_of_chunk leased mark chunk ≡ None → Writes disk was now old new state_family holds (chunk_change was.value chunk) result) where
   by_refusal : (P : Type 0) → ((e : Error) → refusal_of_chunk leased mark chunk ≡ Some e → result ≡ Err e → new ≡ old → P)
@@ -83,7 +85,7 @@ module _ {D T : Type 0} (disk : Ghosts D) (holds : Files → Option MapState) (w
   pub chunk_goes_on : GoesOn disk old new
   chunk_goes_on = by_refusal (GoesOn disk old new) (λ e is r d. subst (λ (x : D). GoesOn disk old x) (sym d) (goes_nowhere disk old)) (λ none w. w.goes_on)
 
-  pub chunk_moves : Tells disk old → ((files : Files) → disk.images old (disk.moment old) files → holds files ≡ Some was.value) → Moves disk state_family holds (was.value ∷ map_applied_all was.value chunk ∷ []) old new
+  pub chunk_moves : Tells disk old → (holds.told → (files : Files) → disk.images old (disk.moment old) files → holds.of files ≡ Some was.value) → Moves disk state_family holds (was.value ∷ map_applied_all was.value chunk ∷ []) old new
   chunk_moves tells gives =
       let Left : D → Type 0 = λ x. Moves disk state_family holds (was.value ∷ map_applied_all was.value chunk ∷ []) old x in
       by_refusal (Left new) (λ e is r d. subst Left (sym d) (moves_nothing disk state_family holds was.value (map_applied_all was.value chunk ∷ []) old gives)) (λ none w. w.moves tells)
@@ -103,11 +105,11 @@ module _ {D T : Type 0} (disk : Ghosts D) (holds : Files → Option MapState) (w
       by_refusal (IfErr result P) (λ e is r d. subst (λ (x : Result T Error). IfErr x P) (sym r) (turned leased mark chunk (Faulted disk old new) (disk.kind old).limit e is))
       (λ none w. IfErr-weaker result _ P (λ e r. disk_refused leased mark chunk (Faulted disk old new) (disk.kind old).limit e none r.cause) w.refused)
 
-  pub chunk_heavy : IfErr result (IsHeavy (disk.kind old).limit (was.weight + store_rise (entries_size chunk)))
-  chunk_heavy =
-      let P : Error → Type 0 = IsHeavy (disk.kind old).limit (was.weight + store_rise (entries_size chunk)) in
+  pub chunk_full : IfErr result (IsFullBy (disk.kind old).limit (was.weight + store_rise (entries_size chunk)))
+  chunk_full =
+      let P : Error → Type 0 = IsFullBy (disk.kind old).limit (was.weight + store_rise (entries_size chunk)) in
       by_refusal (IfErr result P) (λ e is r d. subst (λ (x : Result T Error). IfErr x P) (sym r) (turned_light leased mark chunk (disk.kind old).limit (was.weight + store_rise (entries_size chunk)) e is))
-      (λ none w. IfErr-weaker result _ P (λ e r. r.heavy) w.refused)
+      (λ none w. IfErr-weaker result _ P (λ e r. full_by _ _ _ _ _ _ e (let light = light_chunk was.value chunk in omega (arith, light)) r.full r.heavy) w.refused)
 
 -- a state machine whose files give the map that a chunk made
 pub at_rest_ok : {T : Type 0} (Told : Type 0) {n : ℕ} (now : Shown MapState) (map : MapState) (content : Content) (result : Result T Error) → OnOk result (Told → now.rests content) → OnOk result (1 ≤ n → now.value ≡ map) → 1 ≤ n

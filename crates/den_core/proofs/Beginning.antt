@@ -4,7 +4,7 @@ use Rattle.std.proofs.lemmas.List.{append-nil}
 use Rattle.den_disk.specs.Files.{Files}
 use Rattle.den_disk.specs.Goes.{Extends, added}
 use Rattle.den_model.specs.declared.request.Frame.{Frame}
-use Rattle.den_model.specs.Crash.{Survives, Stands, IsWhole, IsDone, IsServed}
+use Rattle.den_model.specs.Crash.{Survives, Stands, IsWhole, IsDone, IsAnswered, IsServed}
 use Rattle.den_model.specs.Grown.{IsLogAfter}
 use Rattle.den_model.specs.Kv.{Durable, Kv}
 use Rattle.den_model.specs.Log.{Log}
@@ -23,6 +23,39 @@ quiet_cleanup kv false moment = refl
 opening_quiet : (kv : Kv) (moment : ℕ) → output kv (opening kv moment) ≡ []
 opening_quiet kv moment = quiet_cleanup _ kv.running.setting.lease moment
 
+-- the opening at a reading, which is the first of those that were taken
+module _ (kv : Kv) (all : List Frame) (reading moment : ℕ) (is_moment : moment ≡ moment_of reading) (opened : Kv) (r0 r1 r2 : List ℕ)
+    (read : r1 ≡ r0 ++ reading ∷ []) (more : Extends r1 r2) (state : opened ≡ after kv (opening kv moment)) where
+  all_taken : added r0 r2 ≡ reading ∷ added r1 r2
+  all_taken = added_twice r0 r1 r2 (extends_by r0 r1 (reading ∷ []) read) more ∙ ap (λ l. l ++ added r1 r2) (added_is r0 r1 (reading ∷ []) read)
+
+  is_plan : opening kv moment ++ turns opened all (added r1 r2) ≡ plan kv all (added r0 r2)
+  is_plan = ap (λ k. opening kv moment ++ turns k all (added r1 r2)) state
+      ∙ ap (λ m. opening kv m ++ turns (after kv (opening kv m)) all (added r1 r2)) is_moment
+      ∙ ap (plan kv all) (sym all_taken)
+
+  -- the frames were served, with the log as it was, behind the opening and at the end
+  module _ (holds : Files → Option Durable) (sent : List (ℕ × ℕ)) (log opened_log new_log : Log) (left : List ℕ) (new : Kv) (first : IsLogAfter log kv (opening kv moment) opened_log)
+      (done : IsDone left (length (added r1 r2)) (length all) sent opened opened_log (turns opened all (added r1 r2)) new new_log) where
+    every : IsWhole sent kv log (opening kv moment ++ turns opened all (added r1 r2)) new new_log
+    every = whole_twice holds [] sent kv opened new log opened_log new_log (opening kv moment) (turns opened all (added r1 r2))
+        (record { state = state; bytes = sym (opening_quiet kv moment); logged = first }) done.whole
+
+    pub runs_answered : IsAnswered left (length (added r0 r2)) (length all) sent kv (plan kv all (added r0 r2))
+    runs_answered = record {
+      at_end = done.at_end;
+      one_each = omega (arith, ap length all_taken, done.one_each);
+      output_sent = every.bytes ∙ ap (output kv) is_plan;
+    }
+
+    pub runs_whole : (logs : Files → Option Log) (later : ℕ → Files → Type 0) (to : ℕ) → Stands holds later to new.durable → ((files : Files) → later to files → logs files ≡ Some new_log)
+        → IsServed holds logs later to left (length (added r0 r2)) (length all) sent kv log (plan kv all (added r0 r2))
+    runs_whole logs later to stands gives = record {
+      answered = runs_answered;
+      end_stands = subst (λ (k : Kv). Stands holds later to k.durable) (every.state ∙ ap (after kv) is_plan) stands;
+      log_stands = record { each = λ files at. (new_log, gives files at, subst (λ steps. IsLogAfter log kv steps new_log) is_plan every.logged) };
+    }
+
 module _ (holds : Files → Option Durable) (kv : Kv) (all : List Frame) (images : ℕ → Files → Type 0) (from mid : ℕ) (reading moment : ℕ) (is_moment : moment ≡ moment_of reading)
     (begun : Survives holds images from mid [] kv (opening kv moment)) where
   -- the opening was begun
@@ -33,34 +66,10 @@ module _ (holds : Files → Option Durable) (kv : Kv) (all : List Frame) (images
       (subst (λ more. Survives holds images from mid [] kv (opening kv moment ++ more)) (sym (turns_none (after kv (opening kv moment)) all))
       (subst (λ steps. Survives holds images from mid [] kv steps) (sym (append-nil (opening kv moment))) begun))))
 
-  -- the opening was made, and frames were begun: readings r0 at the start, r1 behind the opening, r2 at the end
-  module _ (later : ℕ → Files → Type 0) (to : ℕ) (opened : Kv) (r0 r1 r2 : List ℕ) (sent : List (ℕ × ℕ)) (low : from ≤ mid) (high : mid ≤ to) (past : (t : ℕ) (files : Files) → t ≤ mid → later t files → images t files)
-      (read : r1 ≡ r0 ++ reading ∷ []) (more : Extends r1 r2) (state : opened ≡ after kv (opening kv moment)) where
-    all_taken : added r0 r2 ≡ reading ∷ added r1 r2
-    all_taken = added_twice r0 r1 r2 (extends_by r0 r1 (reading ∷ []) read) more ∙ ap (λ l. l ++ added r1 r2) (added_is r0 r1 (reading ∷ []) read)
-
-    is_plan : opening kv moment ++ turns opened all (added r1 r2) ≡ plan kv all (added r0 r2)
-    is_plan = ap (λ k. opening kv moment ++ turns k all (added r1 r2)) state
-        ∙ ap (λ m. opening kv m ++ turns (after kv (opening kv m)) all (added r1 r2)) is_moment
-        ∙ ap (plan kv all) (sym all_taken)
-
-    pub runs : Survives holds later mid to sent opened (turns opened all (added r1 r2)) → Survives holds later from to sent kv (plan kv all (added r0 r2))
-    runs next = subst (λ steps. Survives holds later from to sent kv steps) is_plan
-        (goes_on holds images later from mid to [] sent kv opened (opening kv moment) (turns opened all (added r1 r2)) low high past begun state (sym (opening_quiet kv moment)) next)
-
-    -- and the frames were served, with the log as it was, behind the opening and at the end
-    pub runs_whole : (logs : Files → Option Log) (log opened_log new_log : Log) (left : List ℕ) (new : Kv) → IsLogAfter log kv (opening kv moment) opened_log
-        → IsDone left (length (added r1 r2)) (length all) sent opened opened_log (turns opened all (added r1 r2)) new new_log → Stands holds later to new.durable
-        → ((files : Files) → later to files → logs files ≡ Some new_log)
-        → IsServed holds logs later to left (length (added r0 r2)) (length all) sent kv log (plan kv all (added r0 r2))
-    runs_whole logs log opened_log new_log left new first done stands gives =
-        let whole_opening : IsWhole [] kv log (opening kv moment) opened opened_log = record { state = state; bytes = sym (opening_quiet kv moment); logged = first } in
-        let every : IsWhole sent kv log (opening kv moment ++ turns opened all (added r1 r2)) new new_log =
-        whole_twice holds [] sent kv opened new log opened_log new_log (opening kv moment) (turns opened all (added r1 r2)) whole_opening done.whole in
-        record {
-          at_end = done.at_end;
-          one_each = omega (arith, ap length all_taken, done.one_each);
-          output_sent = every.bytes ∙ ap (output kv) is_plan;
-          end_stands = subst (λ (k : Kv). Stands holds later to k.durable) (every.state ∙ ap (after kv) is_plan) stands;
-          log_stands = record { each = λ files at. (new_log, gives files at, subst (λ steps. IsLogAfter log kv steps new_log) is_plan every.logged) };
-        }
+  -- it was made, and frames were begun: readings r0 at the start, r1 behind the opening, r2 at the end
+  pub runs : (later : ℕ → Files → Type 0) (to : ℕ) (opened : Kv) (r0 r1 r2 : List ℕ) (sent : List (ℕ × ℕ)) → from ≤ mid → mid ≤ to → ((t : ℕ) (files : Files) → t ≤ mid → later t files → images t files)
+      → r1 ≡ r0 ++ reading ∷ [] → Extends r1 r2 → opened ≡ after kv (opening kv moment)
+      → Survives holds later mid to sent opened (turns opened all (added r1 r2)) → Survives holds later from to sent kv (plan kv all (added r0 r2))
+  runs later to opened r0 r1 r2 sent low high past read more state next =
+      subst (λ steps. Survives holds later from to sent kv steps) (is_plan kv all reading moment is_moment opened r0 r1 r2 read more state)
+      (goes_on holds images later from mid to [] sent kv opened (opening kv moment) (turns opened all (added r1 r2)) low high past begun state (sym (opening_quiet kv moment)) next)

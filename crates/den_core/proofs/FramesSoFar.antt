@@ -36,13 +36,13 @@ turns_push kv (f ∷ all) (r ∷ readings) frame rest reading e =
     ∙ ap (λ k. steps ++ more ++ turn k frame (moment_of reading)) (sym (after_append kv steps more))
 
 -- what the loop keeps where all is told
-pub record SoFar (holds : Files → Option Durable) (images : ℕ → Files → Type 0) (from to : ℕ) (all left : List Frame) (readings : List ℕ) (sent : List (ℕ × ℕ)) (kv now : Kv) (log log_now : Log) : Type 0 where
+pub record SoFar (told : Type 0) (holds : Files → Option Durable) (images : ℕ → Files → Type 0) (from to : ℕ) (all left : List Frame) (readings : List ℕ) (sent : List (ℕ × ℕ)) (kv now : Kv) (log log_now : Log) : Type 0 where
   pub few : length readings ≤ length all
   pub rest : drop (length readings) all ≡ left
-  pub survives : Survives holds images from to sent kv (turns kv all readings)
+  pub survives : told → Survives holds images from to sent kv (turns kv all readings)
   pub whole : IsWhole sent kv log (turns kv all readings) now log_now
 
-module _ (holds : Files → Option Durable) where
+module _ (told : Type 0) (holds : Files → Option Durable) where
   -- no step, where each image stands for the state
   nothing_yet : (images : ℕ → Files → Type 0) (t : ℕ) (kv : Kv) → Stands holds images t kv.durable → Survives holds images t t [] kv []
   nothing_yet images t kv stands = record {
@@ -55,34 +55,34 @@ module _ (holds : Files → Option Durable) where
     moments = tt;
   }
 
-  at_first : (images : ℕ → Files → Type 0) (t : ℕ) (all : List Frame) (kv : Kv) (log : Log) → Stands holds images t kv.durable → SoFar holds images t t all all [] [] kv kv log log
+  at_first : (images : ℕ → Files → Type 0) (t : ℕ) (all : List Frame) (kv : Kv) (log : Log) → (told → Stands holds images t kv.durable) → SoFar told holds images t t all all [] [] kv kv log log
   at_first images t all kv log stands = record {
     few = omega arith;
     rest = refl;
-    survives = subst (λ steps. Survives holds images t t [] kv steps) (sym (turns_none kv all)) (nothing_yet images t kv stands);
+    survives = λ t_told. subst (λ steps. Survives holds images t t [] kv steps) (sym (turns_none kv all)) (nothing_yet images t kv (stands t_told));
     whole = subst (λ steps. IsWhole [] kv log steps kv log) (sym (turns_none kv all)) (record { state = refl; bytes = refl; logged = log_after log log kv [] refl });
   }
 
   -- before the first frame
-  pub begins : (images : ℕ → Files → Type 0) (t : ℕ) (all : List Frame) (readings : List ℕ) (sent : List (ℕ × ℕ)) (kv : Kv) (log : Log) → Stands holds images t kv.durable
-      → SoFar holds images t t all all (added readings readings) (added sent sent) kv kv log log
+  pub begins : (images : ℕ → Files → Type 0) (t : ℕ) (all : List Frame) (readings : List ℕ) (sent : List (ℕ × ℕ)) (kv : Kv) (log : Log) → (told → Stands holds images t kv.durable)
+      → SoFar told holds images t t all all (added readings readings) (added sent sent) kv kv log log
   begins images t all readings sent kv log stands =
-      subst (λ s. SoFar holds images t t all all (added readings readings) s kv kv log log) (sym (added_none sent))
-      (subst (λ r. SoFar holds images t t all all r [] kv kv log log) (sym (added_none readings)) (at_first images t all kv log stands))
+      subst (λ s. SoFar told holds images t t all all (added readings readings) s kv kv log log) (sym (added_none sent))
+      (subst (λ r. SoFar told holds images t t all all r [] kv kv log log) (sym (added_none readings)) (at_first images t all kv log stands))
 
   module _ (old_images images : ℕ → Files → Type 0) (from mid to : ℕ) (all left : List Frame) (readings : List ℕ) (sent more : List (ℕ × ℕ)) (kv now : Kv) (log log_now : Log)
       (frame : Frame) (rest : List Frame) (reading : ℕ) (low : from ≤ mid) (high : mid ≤ to) (past : (t : ℕ) (files : Files) → t ≤ mid → images t files → old_images t files)
-      (so_far : SoFar holds old_images from mid all left readings sent kv now log log_now) (here : left ≡ frame ∷ rest)
-      (next : Survives holds images mid to more now (turn now frame (moment_of reading))) where
+      (so_far : SoFar told holds old_images from mid all left readings sent kv now log log_now) (here : left ≡ frame ∷ rest)
+      (next : told → Survives holds images mid to more now (turn now frame (moment_of reading))) where
     is_plan : turns kv all (readings ++ reading ∷ []) ≡ turns kv all readings ++ turn now frame (moment_of reading)
     is_plan = turns_push kv all readings frame rest reading (so_far.rest ∙ here) ∙ ap (λ k. turns kv all readings ++ turn k frame (moment_of reading)) (sym so_far.whole.state)
 
-    frame_begun : Survives holds images from to (sent ++ more) kv (turns kv all (readings ++ reading ∷ []))
-    frame_begun = subst (λ steps. Survives holds images from to (sent ++ more) kv steps) (sym is_plan)
-        (goes_on holds old_images images from mid to sent more kv now (turns kv all readings) (turn now frame (moment_of reading)) low high past so_far.survives so_far.whole.state so_far.whole.bytes next)
+    frame_begun : told → Survives holds images from to (sent ++ more) kv (turns kv all (readings ++ reading ∷ []))
+    frame_begun says = subst (λ steps. Survives holds images from to (sent ++ more) kv steps) (sym is_plan)
+        (goes_on holds old_images images from mid to sent more kv now (turns kv all readings) (turn now frame (moment_of reading)) low high past (so_far.survives says) so_far.whole.state so_far.whole.bytes (next says))
 
     frame_served : (new : Kv) (new_log : Log) → IsWhole more now log_now (turn now frame (moment_of reading)) new new_log
-        → SoFar holds images from to all rest (readings ++ reading ∷ []) (sent ++ more) kv new log new_log
+        → SoFar told holds images from to all rest (readings ++ reading ∷ []) (sent ++ more) kv new log new_log
     frame_served new new_log done = record {
       few = omega (arith, ap length (so_far.rest ∙ here), length_push readings reading, length-drop (length readings) all);
       rest = ap (λ n. drop n all) (length_push readings reading) ∙ sym (drop-drop 1 (length readings) all) ∙ ap (drop 1) (so_far.rest ∙ here);
@@ -93,33 +93,33 @@ module _ (holds : Files → Option Durable) where
 
 -- the same over the lists that link and clock keep: readings r0 at the start, r1 before the frame, r2 with its own;
 -- bytes sent s0, s1, s2 behind its read, s3 at the end
-module _ (holds : Files → Option Durable) (old_images images : ℕ → Files → Type 0) (from mid to : ℕ) (all left rest : List Frame) (frame : Frame) (kv now : Kv) (log log_now : Log)
+module _ (told : Type 0) (holds : Files → Option Durable) (old_images images : ℕ → Files → Type 0) (from mid to : ℕ) (all left rest : List Frame) (frame : Frame) (kv now : Kv) (log log_now : Log)
     (r0 r1 r2 : List ℕ) (reading moment : ℕ) (s0 s1 s2 s3 : List (ℕ × ℕ))
     (low : from ≤ mid) (high : mid ≤ to) (past : (t : ℕ) (files : Files) → t ≤ mid → images t files → old_images t files)
     (taken : Extends r0 r1) (read : r2 ≡ r1 ++ reading ∷ []) (is_moment : moment ≡ moment_of reading)
     (sent : Extends s0 s1) (quiet : s2 ≡ s1) (more : Extends s2 s3)
-    (so_far : SoFar holds old_images from mid all left (added r0 r1) (added s0 s1) kv now log log_now) (here : left ≡ frame ∷ rest)
-    (next : Survives holds images mid to (added s2 s3) now (turn now frame moment)) where
+    (so_far : SoFar told holds old_images from mid all left (added r0 r1) (added s0 s1) kv now log log_now) (here : left ≡ frame ∷ rest)
+    (next : told → Survives holds images mid to (added s2 s3) now (turn now frame moment)) where
   all_taken : added r0 r2 ≡ added r0 r1 ++ reading ∷ []
   all_taken = added_twice r0 r1 r2 taken (extends_by r1 r2 (reading ∷ []) read) ∙ ap (λ l. added r0 r1 ++ l) (added_is r1 r2 (reading ∷ []) read)
 
   all_sent : added s0 s3 ≡ added s0 s1 ++ added s2 s3
   all_sent = added_twice s0 s2 s3 (subst (λ s. Extends s0 s) (sym quiet) sent) more ∙ ap (λ s. added s0 s ++ added s2 s3) quiet
 
-  at_moment : Survives holds images mid to (added s2 s3) now (turn now frame (moment_of reading))
-  at_moment = subst (λ m. Survives holds images mid to (added s2 s3) now (turn now frame m)) is_moment next
+  at_moment : told → Survives holds images mid to (added s2 s3) now (turn now frame (moment_of reading))
+  at_moment says = subst (λ m. Survives holds images mid to (added s2 s3) now (turn now frame m)) is_moment (next says)
 
   -- a frame was begun
-  pub begun_over : Survives holds images from to (added s0 s3) kv (turns kv all (added r0 r2))
-  begun_over = subst (λ s. Survives holds images from to s kv (turns kv all (added r0 r2))) (sym all_sent)
+  pub begun_over : told → Survives holds images from to (added s0 s3) kv (turns kv all (added r0 r2))
+  begun_over says = subst (λ s. Survives holds images from to s kv (turns kv all (added r0 r2))) (sym all_sent)
       (subst (λ r. Survives holds images from to (added s0 s1 ++ added s2 s3) kv (turns kv all r)) (sym all_taken)
-      (frame_begun holds old_images images from mid to all left (added r0 r1) (added s0 s1) (added s2 s3) kv now log log_now frame rest reading low high past so_far here at_moment))
+      (frame_begun told holds old_images images from mid to all left (added r0 r1) (added s0 s1) (added s2 s3) kv now log log_now frame rest reading low high past so_far here at_moment says))
 
   -- and served
-  pub served_over : (new : Kv) (new_log : Log) → IsWhole (added s2 s3) now log_now (turn now frame moment) new new_log → SoFar holds images from to all rest (added r0 r2) (added s0 s3) kv new log new_log
-  served_over new new_log done = subst (λ s. SoFar holds images from to all rest (added r0 r2) s kv new log new_log) (sym all_sent)
-      (subst (λ r. SoFar holds images from to all rest r (added s0 s1 ++ added s2 s3) kv new log new_log) (sym all_taken)
-      (frame_served holds old_images images from mid to all left (added r0 r1) (added s0 s1) (added s2 s3) kv now log log_now frame rest reading low high past so_far here at_moment
+  pub served_over : (new : Kv) (new_log : Log) → IsWhole (added s2 s3) now log_now (turn now frame moment) new new_log → SoFar told holds images from to all rest (added r0 r2) (added s0 s3) kv new log new_log
+  served_over new new_log done = subst (λ s. SoFar told holds images from to all rest (added r0 r2) s kv new log new_log) (sym all_sent)
+      (subst (λ r. SoFar told holds images from to all rest r (added s0 s1 ++ added s2 s3) kv new log new_log) (sym all_taken)
+      (frame_served told holds old_images images from mid to all left (added r0 r1) (added s0 s1) (added s2 s3) kv now log log_now frame rest reading low high past so_far here at_moment
       new new_log (subst (λ m. IsWhole (added s2 s3) now log_now (turn now frame m) new new_log) is_moment done)))
 
 frames_none : (limit : ℕ) → frames limit [] ≡ []
@@ -127,10 +127,10 @@ unfolding frames_behind
 frames_none limit = refl
 
 -- no input is left
-pub done_over : (holds : Files → Option Durable) (images : ℕ → Files → Type 0) (from to limit : ℕ) (all : List Frame) (left rest : List ℕ) (readings : List ℕ) (s0 s1 s2 : List (ℕ × ℕ)) (kv now : Kv) (log log_now : Log)
-    → SoFar holds images from to all (frames limit left) readings (added s0 s1) kv now log log_now → (left ≡ []) × (rest ≡ []) → s2 ≡ s1
+pub done_over : (told : Type 0) (holds : Files → Option Durable) (images : ℕ → Files → Type 0) (from to limit : ℕ) (all : List Frame) (left rest : List ℕ) (readings : List ℕ) (s0 s1 s2 : List (ℕ × ℕ)) (kv now : Kv) (log log_now : Log)
+    → SoFar told holds images from to all (frames limit left) readings (added s0 s1) kv now log log_now → (left ≡ []) × (rest ≡ []) → s2 ≡ s1
     → IsDone rest (length readings) (length all) (added s0 s2) kv log (turns kv all readings) now log_now
-done_over holds images from to limit all left rest readings s0 s1 s2 kv now log log_now so_far ended quiet =
+done_over told holds images from to limit all left rest readings s0 s1 s2 kv now log log_now so_far ended quiet =
     let none : frames limit left ≡ [] = ap (frames limit) ended.0 ∙ frames_none limit in
     record {
       at_end = ended.1;

@@ -8,17 +8,49 @@ use Rattle.den_core.specs.Parts.{HasFailed}
 use Rattle.den_core.specs.Refusals.{FailsOrStays}
 
 -- memory was wanted, or the disk refused
-pub fails_or_stays : (rose : Type 0) (most : ℕ) (e : Error) (failed untouched : Type 0) → IsRefusal rose most e → (e ≡ OutOfMemory → untouched) → (IsOfDisk e → failed) → FailsOrStays e failed untouched
-fails_or_stays rose most OutOfMemory failed untouched cause memory disk = inl (refl, memory refl)
-fails_or_stays rose most StorageIoError failed untouched cause memory disk = inr (disk (record {}))
-fails_or_stays rose most (DiskFull needed limit) failed untouched cause memory disk = inr (disk (record {}))
-fails_or_stays rose most LinkFault failed untouched cause memory disk = absurd cause
-fails_or_stays rose most (DataCorruption place offset) failed untouched cause memory disk = absurd cause
-fails_or_stays rose most FeatureNotEnabled failed untouched cause memory disk = absurd cause
-fails_or_stays rose most ProposeFailed failed untouched cause memory disk = absurd cause
-fails_or_stays rose most (UnorderedChunk index) failed untouched cause memory disk = absurd cause
-fails_or_stays rose most (Config place) failed untouched cause memory disk = absurd cause
-fails_or_stays rose most StateMachineError failed untouched cause memory disk = absurd cause
+pub fails_or_stays : (rose : Type 0) (most : ℕ) (e : Error) (failed untouched written : Type 0) → IsRefusal rose most e → (e ≡ OutOfMemory → untouched ⊎ (failed × written)) → (IsOfDisk e → failed)
+    → FailsOrStays failed untouched written e
+fails_or_stays rose most OutOfMemory failed untouched written cause memory disk = memory refl
+fails_or_stays rose most StorageIoError failed untouched written cause memory disk = disk (record {})
+fails_or_stays rose most (DiskFull needed limit) failed untouched written cause memory disk = disk (record {})
+fails_or_stays rose most LinkFault failed untouched written cause memory disk = absurd cause
+fails_or_stays rose most (DataCorruption place offset) failed untouched written cause memory disk = absurd cause
+fails_or_stays rose most FeatureNotEnabled failed untouched written cause memory disk = absurd cause
+fails_or_stays rose most ProposeFailed failed untouched written cause memory disk = absurd cause
+fails_or_stays rose most (UnorderedChunk index) failed untouched written cause memory disk = absurd cause
+fails_or_stays rose most (Config place) failed untouched written cause memory disk = absurd cause
+fails_or_stays rose most StateMachineError failed untouched written cause memory disk = absurd cause
+
+-- behind a write
+pub fails_behind : (e : Error) (failed untouched written : Type 0) → failed → written → FailsOrStays failed untouched written e
+fails_behind OutOfMemory failed untouched written fails wrote = inr (fails, wrote)
+fails_behind StorageIoError failed untouched written fails wrote = fails
+fails_behind (DiskFull needed limit) failed untouched written fails wrote = fails
+fails_behind LinkFault failed untouched written fails wrote = fails
+fails_behind (DataCorruption place offset) failed untouched written fails wrote = fails
+fails_behind FeatureNotEnabled failed untouched written fails wrote = fails
+fails_behind ProposeFailed failed untouched written fails wrote = fails
+fails_behind (UnorderedChunk index) failed untouched written fails wrote = fails
+fails_behind (Config place) failed untouched written fails wrote = fails
+fails_behind StateMachineError failed untouched written fails wrote = fails
+
+-- of a call that a longer one ends with
+pub left_weaker : (e : Error) (failed untouched written more : Type 0) → (written → more) → FailsOrStays failed untouched written e → FailsOrStays failed untouched more e
+left_weaker OutOfMemory failed untouched written more so (inl stays) = inl stays
+left_weaker OutOfMemory failed untouched written more so (inr fails) = inr (fails.0, so fails.1)
+left_weaker StorageIoError failed untouched written more so left = left
+left_weaker (DiskFull needed limit) failed untouched written more so left = left
+left_weaker LinkFault failed untouched written more so left = left
+left_weaker (DataCorruption place offset) failed untouched written more so left = left
+left_weaker FeatureNotEnabled failed untouched written more so left = left
+left_weaker ProposeFailed failed untouched written more so left = left
+left_weaker (UnorderedChunk index) failed untouched written more so left = left
+left_weaker (Config place) failed untouched written more so left = left
+left_weaker StateMachineError failed untouched written more so left = left
+
+-- want of memory before a write
+pub memory_stays : (e : Error) (failed untouched written : Type 0) → e ≡ OutOfMemory → untouched → FailsOrStays failed untouched written e
+memory_stays e failed untouched written is stays = subst (FailsOrStays failed untouched written) (sym is) (inl stays)
 
 -- a store that does not end for want of memory
 pub untouched_only : {A B : Type 0} → (B → ⊥) → A ⊎ B → A

@@ -18,6 +18,7 @@ use Rattle.den_model.specs.declared.log_id.HardState.{HardState}
 use Rattle.den_model.specs.declared.running.Running.{Running}
 use Rattle.den_model.specs.MapState.{MapState}
 use Rattle.den_core.specs.Parts.{kv_of, raised_of}
+use Rattle.den_core.specs.Refusals.{HasJoined}
 use Rattle.den_core.proofs.Quiet.{moves, longer, quiet_on}
 
 -- no cleanup is made
@@ -69,3 +70,8 @@ pub turn_log : (old new : Log) (kv : Kv) (frame : Frame) (moment : ℕ) → kv.r
     → IsLogAfter old kv (turn kv frame moment) new
 turn_log old new kv frame moment no_lease joined = log_after old new kv (turn kv frame moment)
     (joined ∙ ap (appended old) (sym (append-nil (answer kv moment frame).logged)) ∙ ap (λ steps. appended old (logged kv steps)) (sym (turn_is kv frame moment no_lease)))
+
+-- and no others
+pub turn_joined : (old new : Log) (kv : Kv) (frame : Frame) (moment : ℕ) → kv.running.setting.lease ≡ false → HasJoined old (answer kv moment frame).logged new → HasJoined old (logged kv (turn kv frame moment)) new
+turn_joined old new kv frame moment no_lease =
+    subst (λ es. HasJoined old es new) (sym (append-nil (answer kv moment frame).logged) ∙ ap (logged kv) (sym (turn_is kv frame moment no_lease)))

@@ -1,8 +1,11 @@
 -- How long the words are that an engine hands its stores, and when a disk may be told to be full of them.
-use Rattle.std.proofs.Common.{◌≡◌, ℕ, ◌≤◌, ◌+◌, ◌-◌, ◌*◌, List, [], ◌∷◌, ◌++◌, length, Option, Some, None, Result, Ok, Err, IfErr, sym, ap, subst, arith, length-append}
+use Rattle.std.proofs.Common.{◌≡◌, ℕ, ◌≤◌, ◌+◌, ◌-◌, ◌*◌, ◌^◌, ◌∙◌, min, List, [], ◌∷◌, ◌++◌, length, Option, Some, None, Result, Ok, Err, IfErr, sym, ap, subst, arith, length-append}
 use Rattle.std.specs.Prelude.{IfSome}
 use Rattle.std.specs.Result.{IsErrAnd}
 use Rattle.den_codec.specs.Full.{IsHeavy}
+use Rattle.den_gate.specs.Slot.{room_for, whole_chunks}
+use Rattle.den_journal.specs.Causes.{IsFullFor}
+use Rattle.den_core.specs.Full.{IsFullBy}
 use Rattle.den_codec.specs.declared.error.Error.{Error}
 use Rattle.den_codec.specs.declared.error.Error.TheVariants.{OutOfMemory, StorageIoError, DiskFull, LinkFault, DataCorruption, FeatureNotEnabled, ProposeFailed, UnorderedChunk, Config, StateMachineError}
 use Rattle.den_model.specs.declared.command.Command.{Command}
@@ -28,22 +31,39 @@ use Rattle.den_core.specs.Weights.{commit_rise, frame_rise, served_weight}
 -- ---- what is told
 
 -- of what is heavier, the more so
-pub heavier : (most more : ℕ) (weight above : ℕ) (e : Error) → more ≡ most → weight ≤ above → IsHeavy more weight e → IsHeavy most above e
-heavier most more weight above (DiskFull needed limit) same le heavy = omega arith
-heavier most more weight above OutOfMemory same le heavy = tt
-heavier most more weight above StorageIoError same le heavy = tt
-heavier most more weight above LinkFault same le heavy = tt
-heavier most more weight above (DataCorruption place offset) same le heavy = tt
-heavier most more weight above FeatureNotEnabled same le heavy = tt
-heavier most more weight above ProposeFailed same le heavy = tt
-heavier most more weight above (UnorderedChunk index) same le heavy = tt
-heavier most more weight above (Config place) same le heavy = tt
-heavier most more weight above StateMachineError same le heavy = tt
+pub heavier : (most more : ℕ) (weight above : ℕ) (e : Error) → more ≡ most → weight ≤ above → IsFullBy more weight e → IsFullBy most above e
+heavier most more weight above (DiskFull needed limit) same le full = (omega (arith, full.0), full.1, omega (arith, full.2), full.3)
+heavier most more weight above OutOfMemory same le full = tt
+heavier most more weight above StorageIoError same le full = tt
+heavier most more weight above LinkFault same le full = tt
+heavier most more weight above (DataCorruption place offset) same le full = tt
+heavier most more weight above FeatureNotEnabled same le full = tt
+heavier most more weight above ProposeFailed same le full = tt
+heavier most more weight above (UnorderedChunk index) same le full = tt
+heavier most more weight above (Config place) same le full = tt
+heavier most more weight above StateMachineError same le full = tt
 
 -- at the exit of a call that answers its callee's refusal
-pub heavier_out : {T : Type 0} (r : Result T Error) (e : Error) (most more : ℕ) (weight above : ℕ) → IsErrAnd r (λ y. y ≡ e) → more ≡ most → weight ≤ above → IsHeavy more weight e → IfErr r (IsHeavy most above)
-heavier_out (Ok x) e most more weight above is same le heavy = tt
-heavier_out (Err y) e most more weight above is same le heavy = heavier most more weight above y same le (subst (IsHeavy more weight) (sym is) heavy)
+pub heavier_out : {T : Type 0} (r : Result T Error) (e : Error) (most more : ℕ) (weight above : ℕ) → IsErrAnd r (λ y. y ≡ e) → more ≡ most → weight ≤ above → IsFullBy more weight e → IfErr r (IsFullBy most above)
+heavier_out (Ok x) e most more weight above is same le full = tt
+heavier_out (Err y) e most more weight above is same le full = heavier most more weight above y same le (subst (IsFullBy more weight) (sym is) full)
+
+-- regions and one more need the room of one of all their bytes
+same_room : (weight size : ℕ) → room_for weight size ≡ room_for (weight + size) 0
+same_room weight size = let same : weight + 10 + size ≡ weight + size + 10 + 0 = omega arith in ap (λ n. min (whole_chunks n) (2 ^ 64 - 1)) same
+
+-- what a store was refused
+pub full_by : (tells : Type 0) (slot : List ℕ) (most weight size rise : ℕ) (e : Error) → size ≤ rise → IsFullFor tells slot weight size e → IsHeavy most (weight + rise) e → IsFullBy most (weight + rise) e
+full_by tells slot most weight size rise (DiskFull needed limit) within full heavy = (heavy, weight + size, omega arith, full.0 ∙ same_room weight size)
+full_by tells slot most weight size rise OutOfMemory within full heavy = tt
+full_by tells slot most weight size rise StorageIoError within full heavy = tt
+full_by tells slot most weight size rise LinkFault within full heavy = tt
+full_by tells slot most weight size rise (DataCorruption place offset) within full heavy = tt
+full_by tells slot most weight size rise FeatureNotEnabled within full heavy = tt
+full_by tells slot most weight size rise ProposeFailed within full heavy = tt
+full_by tells slot most weight size rise (UnorderedChunk index) within full heavy = tt
+full_by tells slot most weight size rise (Config place) within full heavy = tt
+full_by tells slot most weight size rise StateMachineError within full heavy = tt
 
 -- ---- words
 

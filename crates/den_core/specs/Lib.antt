@@ -1,6 +1,7 @@
 pub mod Answers
 pub mod Asked
 pub mod Early
+pub mod Full
 pub mod Input
 pub mod Joined
 pub mod Opening

@@ -1,7 +1,9 @@
 -- Why reading, sending and serving end early, and what a refused step leaves.
-use Rattle.std.specs.Prelude.{◌≡◌, ◌⊎◌, ℕ}
+use Rattle.std.specs.Prelude.{◌≡◌, ◌⊎◌, ◌≤◌, ℕ, List, length}
 use Rattle.den_disk.specs.declared.disk.Disk.{Ghosts}
 use Rattle.den_disk.specs.Files.{Content}
+use Rattle.den_model.specs.Entries.{LogEntry}
+use Rattle.den_model.specs.Grown.{appended}
 use Rattle.den_model.specs.Kv.{Kv}
 use Rattle.den_model.specs.Log.{Log}
 use Rattle.den_codec.specs.declared.error.Error.{Error}
@@ -45,6 +47,21 @@ pub record IsUntouched {S D : Type 0} (disk : Ghosts D) (kv : S → Kv) (log : S
   pub stays_ready : ready old → ready new
   pub stays_at_rest : Tells disk before → rests old (disk.content before) → rests new (disk.content now)
 
--- what a refusal of a step leaves: a stepper that has failed; or, only where memory was wanted, all as it was
-abbrev pub FailsOrStays : Error → (failed untouched : Type 0) → Type 0
-FailsOrStays e failed untouched = ((e ≡ OutOfMemory) × untouched) ⊎ failed
+-- these entries joined the log, and they are some
+pub record HasJoined (old : Log) (entries : List LogEntry) (new : Log) : Type 0 where
+  pub some : 1 ≤ length entries
+  pub joined : new ≡ appended old entries
+
+-- What a refusal of a step leaves. Want of memory leaves all as it was, or, only where a part of the step was written, a
+-- stepper that has failed; any other refusal leaves one that has failed.
+abbrev pub FailsOrStays : (failed untouched written : Type 0) → Error → Type 0
+FailsOrStays failed untouched written OutOfMemory = untouched ⊎ (failed × written)
+FailsOrStays failed untouched written StorageIoError = failed
+FailsOrStays failed untouched written (DiskFull needed limit) = failed
+FailsOrStays failed untouched written LinkFault = failed
+FailsOrStays failed untouched written (DataCorruption place offset) = failed
+FailsOrStays failed untouched written FeatureNotEnabled = failed
+FailsOrStays failed untouched written ProposeFailed = failed
+FailsOrStays failed untouched written (UnorderedChunk index) = failed
+FailsOrStays failed untouched written (Config place) = failed
+FailsOrStays failed untouched written StateMachineError = failed

@@ -1,6 +1,6 @@
 //! A chunk on a state machine whose files give its map.
 ghost use Rattle.std.specs.Prelude.{◌≡◌, ◌+◌, ◌≤◌, IsTrue, OnOk, IfOk, IfErr, length};
-ghost use Rattle.den_codec.specs.Full.{IsHeavy};
+ghost use Rattle.den_core.specs.Full.{IsFullBy};
 ghost use Rattle.den_disk.specs.declared.place.Family.TheVariants.{State as state_family};
 ghost use Rattle.den_disk.specs.Families.{OldOrNew, SparesImages, SparesOthers};
 ghost use Rattle.den_disk.specs.Goes.{Rose, DiskGoesOn};
@@ -23,7 +23,7 @@ pub(crate) fn apply_at_rest<D: Disk, M: StateMachine<D>>(
     requires rests { IsTrue (D.kind disk.old).tells → AtRest (M.shown state.old) (M.map state.old) (D.content disk.old) }
     requires some { 1 ≤ length chunk.now }
     ensures disk { DiskGoesOn D.kind D.moment D.images D.faults disk.old disk.new }
-    ensures own { IsTrue (D.kind disk.old).tells → OldOrNew M.holds (D.images disk.new) (D.moment disk.old) (D.moment disk.new) (M.map state.old) (map_applied_all (M.map state.old) chunk.now) }
+    ensures own { IsTrue (D.kind disk.old).tells → M.holds.told → OldOrNew M.holds.of (D.images disk.new) (D.moment disk.old) (D.moment disk.new) (M.map state.old) (map_applied_all (M.map state.old) chunk.now) }
     ensures others { IsTrue (D.kind disk.old).tells → SparesImages state_family (D.images disk.old) (D.images disk.new) (D.moment disk.old) (D.moment disk.new) }
     ensures spares { IsTrue (D.kind disk.old).tells → SparesOthers state_family (D.content disk.old) (D.content disk.new) }
     ensures applied { OnOk result (M.map state.new ≡ map_applied_all (M.map state.old) chunk.now) }
@@ -32,7 +32,7 @@ pub(crate) fn apply_at_rest<D: Disk, M: StateMachine<D>>(
     ensures rests { OnOk result (IsTrue (D.kind disk.old).tells → AtRest (M.shown state.new) (M.map state.new) (D.content disk.new)) }
     ensures weight { OnOk result ((M.shown state.new).weight ≤ (M.shown state.old).weight + store_rise (entries_size chunk.now)) }
     ensures refused { IfErr result (λ e. IsChunkRefusal (M.settings state.old).leased (Rose (D.faults disk.old) (D.faults disk.new)) (D.kind disk.old).limit (M.map state.old).mark.index chunk.now e) }
-    ensures heavy { IfErr result (IsHeavy (D.kind disk.old).limit ((M.shown state.old).weight + store_rise (entries_size chunk.now))) }
+    ensures full { IfErr result (IsFullBy (D.kind disk.old).limit ((M.shown state.old).weight + store_rise (entries_size chunk.now))) }
 {
     state.apply_chunk(disk, chunk)
 }

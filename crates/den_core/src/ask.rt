@@ -1,8 +1,8 @@
 //! What a frame asks for, before anything is done.
-ghost use Rattle.std.specs.Prelude.{◌≡◌, ◌≤◌, ℕ, List, Option, IfOk, IfErr, Some, None, true, filter_map, option_map};
+ghost use Rattle.std.specs.Prelude.{◌≡◌, ◌≤◌, ℕ, Option, IfOk, IfErr, Some, None, true, filter_map};
 ghost use Rattle.den_codec.specs.declared.error.Error.TheVariants.{OutOfMemory};
 ghost use Rattle.den_model.specs.declared.request.Frame.TheVariants.{Good};
-ghost use Rattle.den_model.specs.Kv.{Durable, Kv};
+ghost use Rattle.den_model.specs.Kv.{Durable};
 ghost use Rattle.den_model.specs.Step.{answer, answer_to, answered, command_of, failed, has_ttl, is_built, is_built_operation, pair_at, write};
 ghost use Rattle.den_model.specs.MapState.{part_of};
 ghost use Rattle.den_core.specs.Asked.{outcome_of, HasRoom};

@@ -1,5 +1,5 @@
 //! Frames read from a link: a length in eight bytes, and so many bytes.
-ghost use Rattle.std.specs.Prelude.{◌≡◌, ◌+◌, ◌-◌, ◌<◌, ◌≤◌, IsTrue, IsSome, IfOk, IfSome, IfErr, OnErr, OnOk, length, take, drop, [], ℕ, vec_len};
+ghost use Rattle.std.specs.Prelude.{◌≡◌, ◌+◌, ◌-◌, ◌<◌, ◌≤◌, IsTrue, IsSome, IfOk, IfSome, IfErr, OnErr, OnOk, length, take, drop, [], vec_len};
 ghost use Rattle.den_disk.specs.Goes.{Rose, LinkGoesOn};
 ghost use Rattle.den_model.specs.Frames.{frame_in};
 ghost use Rattle.den_model.specs.Sizes.{frame_size};

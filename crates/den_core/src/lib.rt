@@ -8,7 +8,8 @@
 //! Invariants, and where each stands:
 //!
 //! 1. The map has each entry of the log, and none above its mark was purged: `IsCaughtUp` in specs/Parts.antt.
-//! 2. Files at rest stand for the engine's durable part: the law `rests_hold` of `Stepper`.
+//! 2. Files at rest stand for the engine's durable part, where its stores tell what files give: the law `rests_hold` of
+//!    `Stepper`.
 //! 3. A step is the definition's: `state` and `answer` of `Stepper::step`. A crash inside it leaves the state after a
 //!    front of its steps: `survives`.
 //! 4. No byte of a reply is sent before its step is on the disk: `survives` of `serve`, which ties bytes sent by a
@@ -20,12 +21,12 @@ mod applying;
 mod ask;
 mod engine;
 mod frame;
-mod opening;
+mod recovery;
 mod server;
 mod stepper;
 
 pub use engine::Engine;
 pub use frame::FrameReader;
-pub use opening::recover;
+pub use recovery::recover;
 pub use server::{early_is_refused, run_from, serve};
 pub use stepper::{StepOut, Stepper};

@@ -1,9 +1,9 @@
 //! The loop that serves frames: each is a step, and what the step answers is sent behind it.
-ghost use Rattle.std.specs.Prelude.{◌≡◌, ◌<◌, ◌≤◌, ◌^◌, ◌+◌, ◌-◌, ◌++◌, ℕ, List, drop, IsTrue, OnOk, IfErr, length, vec_len};
-ghost use Rattle.den_codec.specs.Full.{IsHeavy};
+ghost use Rattle.std.specs.Prelude.{◌≡◌, ◌<◌, ◌≤◌, ◌^◌, ◌+◌, ◌-◌, ◌++◌, ℕ, List, drop, IsTrue, OnOk, IfErr, length};
+ghost use Rattle.den_core.specs.Full.{IsFullBy};
 ghost use Rattle.den_disk.specs.declared.place.Family.TheVariants.{Snapshot as snapshot_family};
 ghost use Rattle.den_disk.specs.Goes.{Rose, IsPrefix, stamped, added, DiskGoesOn, LinkGoesOn, ClockGoesOn};
-ghost use Rattle.den_model.specs.Crash.{Survives, IsWhole, IsDone, IsServed, Tells};
+ghost use Rattle.den_model.specs.Crash.{Survives, IsWhole, IsDone, IsAnswered, IsServed, Tells};
 ghost use Rattle.den_model.specs.Frames.{framed, frames};
 ghost use Rattle.den_model.specs.Plan.{turn, turns, plan};
 ghost use Rattle.den_core.specs.Answers.{frames_of};
@@ -85,29 +85,29 @@ fn serve_frame<D: Disk, L: Link, S: Stepper<D>>(
     disk: &mut D,
     link: &mut L,
     frame: Frame,
-    moment: u64,
+    time: u64,
     buffer: &mut Vec<u8>,
 ) -> Result<(), Error>
     requires ready { S.ready stepper.old }
     requires rests { IsTrue (D.kind disk.old).tells → S.rests stepper.old (D.content disk.old) }
-    requires moment { 1 ≤ moment }
+    requires time { 1 ≤ time }
     ensures disk { DiskGoesOn D.kind D.moment D.images D.faults disk.old disk.new }
     ensures snapshot { IsTrue (D.kind disk.old).tells → SparesFamily snapshot_family D.content D.moment D.images disk.old disk.new }
     ensures link { LinkGoesOn L.tells L.sent L.budget L.taken L.faults link.old link.new }
     ensures left { IsTrue (L.tells link.old) → L.left link.new ≡ L.left link.old }
     ensures taken { L.taken link.new ≡ L.taken link.old }
-    ensures survives { IsTrue (D.kind disk.old).tells → IsTrue (L.tells link.old)
+    ensures survives { IsTrue (D.kind disk.old).tells → IsTrue (L.tells link.old) → S.told
         → Survives S.holds (D.images disk.new) (D.moment disk.old) (D.moment disk.new) (added (L.sent link.old) (L.sent link.new))
-        (S.kv stepper.old) (turn (S.kv stepper.old) frame moment) }
+        (S.kv stepper.old) (turn (S.kv stepper.old) frame time) }
     ensures whole { OnOk result (IsTrue (L.tells link.old)
-        → IsWhole (added (L.sent link.old) (L.sent link.new)) (S.kv stepper.old) (S.log stepper.old) (turn (S.kv stepper.old) frame moment) (S.kv stepper.new) (S.log stepper.new)) }
+        → IsWhole (added (L.sent link.old) (L.sent link.new)) (S.kv stepper.old) (S.log stepper.old) (turn (S.kv stepper.old) frame time) (S.kv stepper.new) (S.log stepper.new)) }
     ensures ready { OnOk result (S.ready stepper.new) }
     ensures rests { OnOk result (IsTrue (D.kind disk.old).tells → S.rests stepper.new (D.content disk.new)) }
     ensures weight { OnOk result (S.weight stepper.new ≤ S.weight stepper.old + frame_rise frame) }
     ensures refused { IfErr result (λ e. IsServeRefusal (Rose (D.faults disk.old) (D.faults disk.new)) (Rose (L.faults link.old) (L.faults link.new)) (D.kind disk.old).limit e) }
-    ensures heavy { IfErr result (IsHeavy (D.kind disk.old).limit (S.weight stepper.old + frame_rise frame)) }
+    ensures full { IfErr result (IsFullBy (D.kind disk.old).limit (S.weight stepper.old + frame_rise frame)) }
 {
-    let out = stepper.step(disk, frame, moment)?;
+    let out = stepper.step(disk, frame, time)?;
     send_all(link, disk, &out, buffer)?;
     Ok(())
 }
@@ -131,7 +131,7 @@ pub fn serve<D: Disk, L: Link, C: Clock, S: Stepper<D>>(
 
     // At every exit, and after a crash at any moment, the disk stands for the state after a prefix of the turns that
     // holds each step of which a byte was sent.
-    ensures survives { Tells (D.kind disk.old).tells (L.tells link.old) (C.tells clock.new)
+    ensures survives { Tells (D.kind disk.old).tells (L.tells link.old) (C.tells clock.new) → S.told
         → Survives S.holds (D.images disk.new) (D.moment disk.old) (D.moment disk.new) (added (L.sent link.old) (L.sent link.new))
         (S.kv stepper.old) (turns (S.kv stepper.old) (frames limit (L.left link.old)) (added (C.readings clock.old) (C.readings clock.new))) }
 
@@ -143,7 +143,7 @@ pub fn serve<D: Disk, L: Link, C: Clock, S: Stepper<D>>(
     ensures ready { OnOk result (S.ready stepper.new) }
     ensures rests { OnOk result (IsTrue (D.kind disk.old).tells → S.rests stepper.new (D.content disk.new)) }
     ensures refused { IfErr result (λ e. IsServeRefusal (Rose (D.faults disk.old) (D.faults disk.new)) (Rose (L.faults link.old) (L.faults link.new)) (D.kind disk.old).limit e) }
-    ensures heavy { IfErr result (IsHeavy (D.kind disk.old).limit (served_weight (S.weight stepper.old) (L.taken link.new - L.taken link.old))) }
+    ensures full { IfErr result (IsFullBy (D.kind disk.old).limit (served_weight (S.weight stepper.old) (L.taken link.new - L.taken link.old))) }
 {
     let mut reader = FrameReader::new(alloc, limit);
     let mut buffer = Vec::new(alloc);
@@ -152,8 +152,8 @@ pub fn serve<D: Disk, L: Link, C: Clock, S: Stepper<D>>(
         let Some(frame) = found else {
             return Ok(());
         };
-        let moment = clock.now().max(1);
-        serve_frame(stepper, disk, link, frame, moment, &mut buffer)?;
+        let time = clock.now().max(1);
+        serve_frame(stepper, disk, link, frame, time, &mut buffer)?;
     }
 }
 
@@ -172,15 +172,21 @@ pub fn run_from<D: Disk, L: Link, C: Clock, S: Stepper<D>>(
     requires term { (S.kv stepper.old).durable.term < 2 ^ 64 - 1 }
     requires index { (S.kv stepper.old).durable.last_index < 2 ^ 64 - 1 }
 
-    // At Ok exactly the plan's output was sent, and its end is on the disk, with the plan's entries in the log.
-    ensures served { OnOk result (Tells (D.kind disk.old).tells (L.tells link.old) (C.tells clock.new)
+    // At Ok exactly the plan's output was sent.
+    ensures answered { OnOk result (Tells (D.kind disk.old).tells (L.tells link.old) (C.tells clock.new)
+        → let readings = added (C.readings clock.old) (C.readings clock.new) in
+        IsAnswered (L.left link.new) (length readings) (length (frames limit (L.left link.old)))
+        (added (L.sent link.old) (L.sent link.new)) (S.kv stepper.old) (plan (S.kv stepper.old) (frames limit (L.left link.old)) readings)) }
+
+    // And its end is on the disk, with the plan's entries in the log.
+    ensures served { OnOk result (Tells (D.kind disk.old).tells (L.tells link.old) (C.tells clock.new) → S.told
         → let readings = added (C.readings clock.old) (C.readings clock.new) in
         IsServed S.holds S.logs (D.images disk.new) (D.moment disk.new) (L.left link.new) (length readings) (length (frames limit (L.left link.old)))
         (added (L.sent link.old) (L.sent link.new)) (S.kv stepper.old) (S.log stepper.old) (plan (S.kv stepper.old) (frames limit (L.left link.old)) readings)) }
 
     // At every exit, and after a crash at any moment, inside a call too, the disk stands for the state after a prefix
     // of the plan that holds each step of which a byte was sent.
-    ensures any_moment { Tells (D.kind disk.old).tells (L.tells link.old) (C.tells clock.new)
+    ensures any_moment { Tells (D.kind disk.old).tells (L.tells link.old) (C.tells clock.new) → S.told
         → Survives S.holds (D.images disk.new) (D.moment disk.old) (D.moment disk.new) (added (L.sent link.old) (L.sent link.new))
         (S.kv stepper.old) (plan (S.kv stepper.old) (frames limit (L.left link.old)) (added (C.readings clock.old) (C.readings clock.new))) }
     ensures disk { DiskGoesOn D.kind D.moment D.images D.faults disk.old disk.new }
@@ -191,10 +197,10 @@ pub fn run_from<D: Disk, L: Link, C: Clock, S: Stepper<D>>(
     ensures ready { OnOk result (S.ready stepper.new) }
     ensures rests { OnOk result (IsTrue (D.kind disk.old).tells → S.rests stepper.new (D.content disk.new)) }
     ensures refused { IfErr result (λ e. IsServeRefusal (Rose (D.faults disk.old) (D.faults disk.new)) (Rose (L.faults link.old) (L.faults link.new)) (D.kind disk.old).limit e) }
-    ensures heavy { IfErr result (IsHeavy (D.kind disk.old).limit (run_weight (S.weight stepper.old) (L.taken link.new - L.taken link.old))) }
+    ensures full { IfErr result (IsFullBy (D.kind disk.old).limit (run_weight (S.weight stepper.old) (L.taken link.new - L.taken link.old))) }
 {
-    let moment = clock.now().max(1);
-    stepper.open_at(disk, moment)?;
+    let time = clock.now().max(1);
+    stepper.open_at(disk, time)?;
     serve(stepper, disk, link, clock, limit, alloc)
 }
 

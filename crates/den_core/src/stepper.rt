@@ -1,17 +1,17 @@
 //! What the loop over frames sees of an engine.
-ghost use Rattle.std.specs.Prelude.{◌≡◌, ◌↔◌, ◌<◌, ◌≤◌, ◌^◌, ◌+◌, ◌-◌, ℕ, IsTrue, List, [], Option, Some, OnOk, IfOk, IfErr};
+ghost use Rattle.std.specs.Prelude.{◌≡◌, ◌↔◌, ◌<◌, ◌≤◌, ◌^◌, ◌+◌, ◌-◌, ℕ, IsTrue, [], Option, Some, OnOk, IfOk, IfErr};
 ghost use Rattle.den_disk.specs.declared.place.Family.TheVariants.{Snapshot as snapshot_family};
 ghost use Rattle.den_disk.specs.Files.{Files, Content, IsImage};
 ghost use Rattle.den_disk.specs.Goes.{Rose, DiskGoesOn};
 ghost use Rattle.den_model.specs.Grown.{IsLogAfter};
 ghost use Rattle.den_model.specs.Kv.{Durable, Kv};
 ghost use Rattle.den_model.specs.Log.{Log};
-ghost use Rattle.den_model.specs.Plan.{after, output, opening, turn};
+ghost use Rattle.den_model.specs.Plan.{after, logged, output, opening, turn};
 ghost use Rattle.den_model.specs.Crash.{Survives};
 ghost use Rattle.den_journal.specs.Causes.{IsRefusal};
-ghost use Rattle.den_codec.specs.Full.{IsHeavy};
+ghost use Rattle.den_core.specs.Full.{IsFullBy};
 ghost use Rattle.den_core.specs.Answers.{frames_of};
-ghost use Rattle.den_core.specs.Refusals.{FailsOrStays, IsUntouched};
+ghost use Rattle.den_core.specs.Refusals.{FailsOrStays, HasJoined, IsUntouched};
 ghost use Rattle.den_core.specs.Spared.{SparesFamily};
 ghost use Rattle.den_core.specs.Weights.{frame_rise, opening_rise};
 
@@ -33,6 +33,9 @@ pub trait Stepper<D: Disk>: Drop {
     /// Its log.
     ghost log: { Self → Log };
 
+    /// It tells what files stand for.
+    ghost told: { Type 0 };
+
     /// What files stand for.
     ghost holds: { Files → Option Durable };
 
@@ -53,55 +56,55 @@ pub trait Stepper<D: Disk>: Drop {
     ghost weight: { Self → ℕ };
 
     /// Makes the opening's steps.
-    fn open_at(&mut self, disk: &mut D, moment: u64) -> Result<(), Error>
+    fn open_at(&mut self, disk: &mut D, time: u64) -> Result<(), Error>
         requires ready { ready self.old }
         requires rests { IsTrue (D.kind disk.old).tells → rests self.old (D.content disk.old) }
-        requires moment { 1 ≤ moment }
+        requires time { 1 ≤ time }
         requires term { (kv self.old).durable.term < 2 ^ 64 - 1 }
         requires index { (kv self.old).durable.last_index < 2 ^ 64 - 1 }
         ensures disk { DiskGoesOn D.kind D.moment D.images D.faults disk.old disk.new }
         ensures snapshot { IsTrue (D.kind disk.old).tells → SparesFamily snapshot_family D.content D.moment D.images disk.old disk.new }
-        ensures survives { IsTrue (D.kind disk.old).tells
-            → Survives holds (D.images disk.new) (D.moment disk.old) (D.moment disk.new) [] (kv self.old) (opening (kv self.old) moment) }
-        ensures state { OnOk result (kv self.new ≡ after (kv self.old) (opening (kv self.old) moment)) }
-        ensures logged { OnOk result (IsLogAfter (log self.old) (kv self.old) (opening (kv self.old) moment) (log self.new)) }
+        ensures survives { IsTrue (D.kind disk.old).tells → told
+            → Survives holds (D.images disk.new) (D.moment disk.old) (D.moment disk.new) [] (kv self.old) (opening (kv self.old) time) }
+        ensures state { OnOk result (kv self.new ≡ after (kv self.old) (opening (kv self.old) time)) }
+        ensures logged { OnOk result (IsLogAfter (log self.old) (kv self.old) (opening (kv self.old) time) (log self.new)) }
         ensures weight { OnOk result (weight self.new ≤ weight self.old + opening_rise) }
         ensures ready { OnOk result (ready self.new) }
         ensures rests { OnOk result (IsTrue (D.kind disk.old).tells → rests self.new (D.content disk.new)) }
         ensures refused { IfErr result (λ e. IsRefusal (Rose (D.faults disk.old) (D.faults disk.new)) (D.kind disk.old).limit e) }
-        ensures heavy { IfErr result (IsHeavy (D.kind disk.old).limit (weight self.old + opening_rise)) }
-        ensures left { IfErr result (λ e. FailsOrStays e (failed self.new)
-            (IsUntouched D.Disk kv log weight ready rests self.old self.new disk.old disk.new)) };
+        ensures full { IfErr result (IsFullBy (D.kind disk.old).limit (weight self.old + opening_rise)) }
+        ensures left { IfErr result (FailsOrStays (failed self.new) (IsUntouched D.Disk kv log weight ready rests self.old self.new disk.old disk.new)
+            ((kv self.new).durable.term ≡ (kv self.old).durable.term + 1)) };
 
     /// Makes a frame's steps, and answers what is to be sent.
-    fn step(&mut self, disk: &mut D, frame: Frame, moment: u64) -> Result<StepOut, Error>
+    fn step(&mut self, disk: &mut D, frame: Frame, time: u64) -> Result<StepOut, Error>
         requires ready { ready self.old }
         requires rests { IsTrue (D.kind disk.old).tells → rests self.old (D.content disk.old) }
-        requires moment { 1 ≤ moment }
+        requires time { 1 ≤ time }
         ensures disk { DiskGoesOn D.kind D.moment D.images D.faults disk.old disk.new }
         ensures snapshot { IsTrue (D.kind disk.old).tells → SparesFamily snapshot_family D.content D.moment D.images disk.old disk.new }
-        ensures survives { IsTrue (D.kind disk.old).tells
-            → Survives holds (D.images disk.new) (D.moment disk.old) (D.moment disk.new) [] (kv self.old) (turn (kv self.old) frame moment) }
-        ensures state { OnOk result (kv self.new ≡ after (kv self.old) (turn (kv self.old) frame moment)) }
-        ensures logged { OnOk result (IsLogAfter (log self.old) (kv self.old) (turn (kv self.old) frame moment) (log self.new)) }
+        ensures survives { IsTrue (D.kind disk.old).tells → told
+            → Survives holds (D.images disk.new) (D.moment disk.old) (D.moment disk.new) [] (kv self.old) (turn (kv self.old) frame time) }
+        ensures state { OnOk result (kv self.new ≡ after (kv self.old) (turn (kv self.old) frame time)) }
+        ensures logged { OnOk result (IsLogAfter (log self.old) (kv self.old) (turn (kv self.old) frame time) (log self.new)) }
         ensures weight { OnOk result (weight self.new ≤ weight self.old + frame_rise frame) }
-        ensures answer { IfOk result (λ out. frames_of out.reply out.events ≡ output (kv self.old) (turn (kv self.old) frame moment)) }
+        ensures answer { IfOk result (λ out. frames_of out.reply out.events ≡ output (kv self.old) (turn (kv self.old) frame time)) }
         ensures ready { OnOk result (ready self.new) }
         ensures rests { OnOk result (IsTrue (D.kind disk.old).tells → rests self.new (D.content disk.new)) }
         ensures refused { IfErr result (λ e. IsRefusal (Rose (D.faults disk.old) (D.faults disk.new)) (D.kind disk.old).limit e) }
-        ensures heavy { IfErr result (IsHeavy (D.kind disk.old).limit (weight self.old + frame_rise frame)) }
-        ensures left { IfErr result (λ e. FailsOrStays e (failed self.new)
-            (IsUntouched D.Disk kv log weight ready rests self.old self.new disk.old disk.new)) };
+        ensures full { IfErr result (IsFullBy (D.kind disk.old).limit (weight self.old + frame_rise frame)) }
+        ensures left { IfErr result (FailsOrStays (failed self.new) (IsUntouched D.Disk kv log weight ready rests self.old self.new disk.old disk.new)
+            (HasJoined (log self.old) (logged (kv self.old) (turn (kv self.old) frame time)) (log self.new))) };
 
     /// Whether a refusal left it of no more use. It is opened anew then.
     fn is_failed(&self) -> bool
         ensures { IsTrue result ↔ failed self.now };
 
     /// Files that lie as it left them stand for its durable part, whatever a crash does to what is pending.
-    ghost rests_hold: { (s : Self) (c : Content) (files : Files) → ready s → rests s c → IsImage c files → holds files ≡ Some (kv s).durable };
+    ghost rests_hold: { told → (s : Self) (c : Content) (files : Files) → ready s → rests s c → IsImage c files → holds files ≡ Some (kv s).durable };
 
     /// And they give its log.
-    ghost rests_log: { (s : Self) (c : Content) (files : Files) → ready s → rests s c → IsImage c files → logs files ≡ Some (log s) };
+    ghost rests_log: { told → (s : Self) (c : Content) (files : Files) → ready s → rests s c → IsImage c files → logs files ≡ Some (log s) };
 
     /// One that failed cannot go on.
     ghost failed_ends: { (s : Self) → ready s → failed s → ⊥ };

@@ -23,8 +23,8 @@ frames-init g c = record {
   so_far = λ told.
       let disk = c.args.disk.now in
       let s = c.args.stepper.now in
-      begins g.S.Stepper.holds _ _ _ (g.C.Clock.readings c.args.clock.now) (g.L.Link.sent c.args.link.now) _ (g.S.Stepper.log s) (stands_now _ _ _ (g.D.Disk.content disk) _ (λ files. g.met.D.Disk.images_now disk files told.disk_tells)
-      (λ files. g.met.S.Stepper.rests_hold s (g.D.Disk.content disk) files c.requires.ready (c.requires.rests told.disk_tells)));
+      begins g.S.Stepper.told g.S.Stepper.holds _ _ _ (g.C.Clock.readings c.args.clock.now) (g.L.Link.sent c.args.link.now) _ (g.S.Stepper.log s) (λ says. stands_now _ _ _ (g.D.Disk.content disk) _ (λ files. g.met.D.Disk.images_now disk files told.disk_tells)
+      (λ files. g.met.S.Stepper.rests_hold says s (g.D.Disk.content disk) files c.requires.ready (c.requires.rests told.disk_tells)));
 }
 
 -- the input is at its end
@@ -32,7 +32,7 @@ pub returns-in_default-clause-done : goal.returns-in_default-clause-done
 returns-in_default-clause-done g c = λ told.
     let inv = c.frames.invariant in
     let link_tells : IsTrue (g.L.Link.tells c.frames.link) = subst (λ b. IsTrue b) (sym inv.link.same) told.link_tells in
-    done_over g.S.Stepper.holds _ _ _ _ _ _ _ _ _ _ _ _ _ _ _ (inv.so_far told) (found_none _ _ _ _ c.in_default.is (c.in_ok-found.ensures.found link_tells)) (c.next.ensures.sent link_tells)
+    done_over g.S.Stepper.told g.S.Stepper.holds _ _ _ _ _ _ _ _ _ _ _ _ _ _ _ (inv.so_far told) (found_none _ _ _ _ c.in_default.is (c.in_ok-found.ensures.found link_tells)) (c.next.ensures.sent link_tells)
 
 -- a frame was begun
 pub returns-in_err-serve_frame-clause-survives : goal.returns-in_err-serve_frame-clause-survives
@@ -44,18 +44,18 @@ returns-in_err-serve_frame-clause-survives g c = λ told.
     let disk_tells : IsTrue (g.D.Disk.kind c.frames.disk).tells = subst (λ (k : Kind). IsTrue k.tells) (sym inv.disk.same) told.disk_tells in
     let then_tells : IsTrue (g.L.Link.tells c.next.new.link) = subst (λ b. IsTrue b) (sym c.next.ensures.on.same) link_tells in
     let on = c.serve_frame.ensures.disk.told disk_tells in
-    begun_over g.S.Stepper.holds _ _ _ _ _ _ _ _ _ _ _ _ _ _ _ _ _ _ _ _ _ _
+    begun_over g.S.Stepper.told g.S.Stepper.holds _ _ _ _ _ _ _ _ _ _ _ _ _ _ _ _ _ _ _ _ _ _
     (inv.disk.told told.disk_tells).later on.later on.past
-    (inv.clock.grows before.clock_tells) (c.now.ensures.told told.clock_tells) c.max-moment.ensures
+    (inv.clock.grows before.clock_tells) (c.now.ensures.told told.clock_tells) c.max-time.ensures
     (inv.link.grows told.link_tells) (c.next.ensures.sent link_tells) (c.serve_frame.ensures.link.grows then_tells)
     (inv.so_far before) (found_some _ _ _ _ _ _ inv.limit c.in-Some.is (c.in_ok-found.ensures.found link_tells))
-    (c.serve_frame.ensures.survives disk_tells then_tells)
+    (λ says. c.serve_frame.ensures.survives disk_tells then_tells says)
 
-pub returns-in_err-serve_frame-clause-heavy : goal.returns-in_err-serve_frame-clause-heavy
-returns-in_err-serve_frame-clause-heavy g c =
+pub returns-in_err-serve_frame-clause-full : goal.returns-in_err-serve_frame-clause-full
+returns-in_err-serve_frame-clause-full g c =
     let inv = c.frames.invariant in
     heavier_out c.from_residual-in_err-serve_frame.result c.in_err-serve_frame.field-0.0 _ _ _ _ c.from_residual-in_err-serve_frame.ensures.1 (ap (λ (k : Kind). k.limit) inv.disk.same)
-    (served_on (g.S.Stepper.weight c.args.stepper.now) (g.S.Stepper.weight c.frames.stepper) (g.L.Link.taken c.args.link.now) (g.L.Link.taken c.frames.link) (g.L.Link.taken c.next.new.link) (g.L.Link.taken c.serve_frame.new.link) _ c.in-Some.frame c.in-Some.is inv.weight inv.link.more c.in_ok-found.ensures.size c.serve_frame.ensures.taken c.next.ensures.on.more) c.in_err-serve_frame.ensures.heavy
+    (served_on (g.S.Stepper.weight c.args.stepper.now) (g.S.Stepper.weight c.frames.stepper) (g.L.Link.taken c.args.link.now) (g.L.Link.taken c.frames.link) (g.L.Link.taken c.next.new.link) (g.L.Link.taken c.serve_frame.new.link) _ c.in-Some.frame c.in-Some.is inv.weight inv.link.more c.in_ok-found.ensures.size c.serve_frame.ensures.taken c.next.ensures.on.more) c.in_err-serve_frame.ensures.full
 
 -- and served
 pub frames-preserved : goal.frames-preserved
@@ -82,14 +82,14 @@ frames-preserved g c =
           let disk_tells : IsTrue (g.D.Disk.kind c.frames.disk).tells = subst (λ (k : Kind). IsTrue k.tells) (sym inv.disk.same) told.disk_tells in
           let then_tells : IsTrue (g.L.Link.tells c.next.new.link) = subst (λ b. IsTrue b) (sym c.next.ensures.on.same) link_tells in
           let on = c.serve_frame.ensures.disk.told disk_tells in
-          served_over g.S.Stepper.holds _ _ _ _ _ _ _ _ _ _ _ _ _ _ _ _ _ _ _ _ _ _
+          served_over g.S.Stepper.told g.S.Stepper.holds _ _ _ _ _ _ _ _ _ _ _ _ _ _ _ _ _ _ _ _ _ _
           (inv.disk.told told.disk_tells).later on.later on.past
-          (inv.clock.grows before.clock_tells) (c.now.ensures.told told.clock_tells) c.max-moment.ensures
+          (inv.clock.grows before.clock_tells) (c.now.ensures.told told.clock_tells) c.max-time.ensures
           (inv.link.grows told.link_tells) (c.next.ensures.sent link_tells) (c.serve_frame.ensures.link.grows then_tells)
           (inv.so_far before)
           (found_some _ _ _ _ _ _ inv.limit c.in-Some.is (c.in_ok-found.ensures.found link_tells)
           ∙ ap (λ left. c.in-Some.frame ∷ frames c.args.limit left) (sym (c.serve_frame.ensures.left then_tells)))
-          (c.serve_frame.ensures.survives disk_tells then_tells)
+          (λ says. c.serve_frame.ensures.survives disk_tells then_tells says)
           _ _ (c.in_ok-serve_frame.ensures.whole then_tells);
     }
 

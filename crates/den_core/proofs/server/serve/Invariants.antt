@@ -25,7 +25,7 @@ invariant-frames g l =
       ready : S.ready l.stepper;
       rests : IsTrue (D.kind l.fn.disk).tells → S.rests l.stepper (D.content l.disk);
       so_far : Tells (D.kind l.fn.disk).tells (L.tells l.fn.link) (C.tells l.clock)
-          → SoFar S.holds (D.images l.disk) (D.moment l.fn.disk) (D.moment l.disk)
+          → SoFar S.told S.holds (D.images l.disk) (D.moment l.fn.disk) (D.moment l.disk)
           (frames l.limit (L.left l.fn.link)) (frames l.limit (L.left l.link))
           (added (C.readings l.fn.clock) (C.readings l.clock)) (added (L.sent l.fn.link) (L.sent l.link)) (S.kv l.fn.stepper) (S.kv l.stepper) (S.log l.fn.stepper) (S.log l.stepper);
     }

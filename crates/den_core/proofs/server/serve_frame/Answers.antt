@@ -7,23 +7,23 @@ use Rattle.den_core.proofs.server.serve_frame.Goals as goal
 
 -- the step is made, and a front of what it answers is sent
 pub returns-in_err-send_all-clause-survives : goal.returns-in_err-send_all-clause-survives
-returns-in_err-send_all-clause-survives g c = λ disk_tells link_tells.
+returns-in_err-send_all-clause-survives g c = λ disk_tells link_tells told.
     let step = c.in_ok-out.ensures in
     let disk = c.step.new.disk in
     let then : IsTrue (g.D.Disk.kind disk).tells = subst (λ (k : Kind). IsTrue k.tells) (sym step.disk.same) disk_tells in
     let stands : Stands g.S.Stepper.holds (g.D.Disk.images disk) (g.D.Disk.moment disk) (g.S.Stepper.kv c.step.new.self).durable =
-    stands_now g.S.Stepper.holds (g.D.Disk.images disk) (g.D.Disk.moment disk) (g.D.Disk.content disk) (g.S.Stepper.kv c.step.new.self).durable (λ files. g.met.D.Disk.images_now disk files then) (λ files. g.met.S.Stepper.rests_hold c.step.new.self (g.D.Disk.content disk) files step.ready (step.rests disk_tells)) in
-    then_sent_over g.S.Stepper.holds _ _ _ _ (g.S.Stepper.kv c.step.new.self) _ _ _ _ (step.disk.told disk_tells).later (step.survives disk_tells) step.state stands
+    stands_now g.S.Stepper.holds (g.D.Disk.images disk) (g.D.Disk.moment disk) (g.D.Disk.content disk) (g.S.Stepper.kv c.step.new.self).durable (λ files. g.met.D.Disk.images_now disk files then) (λ files. g.met.S.Stepper.rests_hold told c.step.new.self (g.D.Disk.content disk) files step.ready (step.rests disk_tells)) in
+    then_sent_over g.S.Stepper.holds _ _ _ _ (g.S.Stepper.kv c.step.new.self) _ _ _ _ (step.disk.told disk_tells).later (step.survives disk_tells told) step.state stands
     step.answer (c.send_all.ensures.front link_tells)
 
 pub returns-clause-survives : goal.returns-clause-survives
-returns-clause-survives g c = λ disk_tells link_tells.
+returns-clause-survives g c = λ disk_tells link_tells told.
     let step = c.in_ok-out.ensures in
     let disk = c.step.new.disk in
     let then : IsTrue (g.D.Disk.kind disk).tells = subst (λ (k : Kind). IsTrue k.tells) (sym step.disk.same) disk_tells in
     let stands : Stands g.S.Stepper.holds (g.D.Disk.images disk) (g.D.Disk.moment disk) (g.S.Stepper.kv c.step.new.self).durable =
-    stands_now g.S.Stepper.holds (g.D.Disk.images disk) (g.D.Disk.moment disk) (g.D.Disk.content disk) (g.S.Stepper.kv c.step.new.self).durable (λ files. g.met.D.Disk.images_now disk files then) (λ files. g.met.S.Stepper.rests_hold c.step.new.self (g.D.Disk.content disk) files step.ready (step.rests disk_tells)) in
-    then_sent_over g.S.Stepper.holds _ _ _ _ (g.S.Stepper.kv c.step.new.self) _ _ _ _ (step.disk.told disk_tells).later (step.survives disk_tells) step.state stands
+    stands_now g.S.Stepper.holds (g.D.Disk.images disk) (g.D.Disk.moment disk) (g.D.Disk.content disk) (g.S.Stepper.kv c.step.new.self).durable (λ files. g.met.D.Disk.images_now disk files then) (λ files. g.met.S.Stepper.rests_hold told c.step.new.self (g.D.Disk.content disk) files step.ready (step.rests disk_tells)) in
+    then_sent_over g.S.Stepper.holds _ _ _ _ (g.S.Stepper.kv c.step.new.self) _ _ _ _ (step.disk.told disk_tells).later (step.survives disk_tells told) step.state stands
     step.answer (c.send_all.ensures.front link_tells)
 
 -- all of it was sent

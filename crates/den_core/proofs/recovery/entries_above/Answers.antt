@@ -1,7 +1,7 @@
 use Rattle.std.proofs.Common.{◌∙◌, arith}
 use Rattle.std.proofs.lemmas.Result.{IfOk-weaker}
 use Rattle.den_core.proofs.CatchUp.{entries_some, entries_none}
-use Rattle.den_core.proofs.opening.entries_above.Goals as goal
+use Rattle.den_core.proofs.recovery.entries_above.Goals as goal
 
 pub returns-in-Some-clause-entries : goal.returns-in-Some-clause-entries
 returns-in-Some-clause-entries g c = IfOk-weaker c.get_entries.result _ _

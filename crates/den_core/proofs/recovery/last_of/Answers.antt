@@ -1,6 +1,6 @@
 use Rattle.std.proofs.Common.{◌∙◌, sym}
 use Rattle.den_core.proofs.CatchUp.{last_some}
-use Rattle.den_core.proofs.opening.last_of.Goals as goal
+use Rattle.den_core.proofs.recovery.last_of.Goals as goal
 
 pub returns-in-Some : goal.returns-in-Some
 returns-in-Some c =

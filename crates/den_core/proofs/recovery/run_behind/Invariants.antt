@@ -1,6 +1,6 @@
 use Rattle.std.proofs.Common.{◌≡◌, ◌+◌, drop}
 use Rattle.den_model.specs.Image.{gapless_from}
-use Rattle.den_core.proofs.opening.run_behind.Given as goal
+use Rattle.den_core.proofs.recovery.run_behind.Given as goal
 
 -- the rest decides
 abbrev pub invariant-loop-entry : goal.invariant-loop-entry

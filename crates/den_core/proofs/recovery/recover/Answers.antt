@@ -3,35 +3,35 @@ use Rattle.std.proofs.lemmas.Result.{IfOk-weaker}
 use Rattle.den_core.proofs.CatchUp.{refused_here, left_here, free_here, none_some, refused_later, room_here}
 use Rattle.den_core.proofs.Quiet.{stays}
 use Rattle.den_core.proofs.Spared.{gives_now, all_give, on_ok_just, spares_still}
-use Rattle.den_core.proofs.opening.recover.Goals as goal
+use Rattle.den_core.proofs.recovery.recover.Goals as goal
 use Rattle.den_state.specs.Machine.{AtRest, rest_hold}
 
 -- nothing was done
 pub returns-in_err-found-clause-survives : goal.returns-in_err-found-clause-survives
-returns-in_err-found-clause-survives g c = λ kept told is.
+returns-in_err-found-clause-survives g c = λ kept told held is.
     let D = g.D.Disk in
     let disk = c.args.disk.now in
     let rests = c.requires.rests told in
-    stays _ _ _ _ _ (all_give g.G.LogStore.holds g.T.MetaStore.holds g.M.StateMachine.holds _ _ _ _ _ _ _ is
+    stays _ _ _ _ _ (all_give g.G.LogStore.holds.of g.T.MetaStore.holds.of g.M.StateMachine.holds.of _ _ _ _ _ _ _ is
     (gives_now _ (g.G.LogStore.shown c.args.log).rests _ _ _ _ (λ files. g.met.D.Disk.images_now disk files told)
-    (λ files rest at. g.met.G.LogStore.lies.rests_hold c.args.log (D.content disk) files c.requires.log_ready rest at) rests.log)
+    (λ files rest at. g.met.G.LogStore.lies.rests_hold held.0 c.args.log (D.content disk) files c.requires.log_ready rest at) rests.log)
     (gives_now _ (g.T.MetaStore.shown c.args.meta).rests _ _ _ _ (λ files. g.met.D.Disk.images_now disk files told)
-    (λ files rest at. g.met.T.MetaStore.lies.rests_hold c.args.meta (D.content disk) files c.requires.meta_ready rest at) rests.meta)
+    (λ files rest at. g.met.T.MetaStore.lies.rests_hold held.1 c.args.meta (D.content disk) files c.requires.meta_ready rest at) rests.meta)
     (gives_now _ (AtRest (g.M.StateMachine.shown c.args.state) (g.M.StateMachine.map c.args.state)) _ _ _ _ (λ files. g.met.D.Disk.images_now disk files told)
-    (λ files rest at. rest_hold g.met.M.StateMachine.lies c.args.state (g.M.StateMachine.map c.args.state) (D.content disk) files c.requires.state_ready rest at) rests.state))
+    (λ files rest at. rest_hold g.met.M.StateMachine.lies held.2 c.args.state (g.M.StateMachine.map c.args.state) (D.content disk) files c.requires.state_ready rest at) rests.state))
 
 pub returns-in-Some-clause-survives : goal.returns-in-Some-clause-survives
-returns-in-Some-clause-survives g c = λ kept told is.
+returns-in-Some-clause-survives g c = λ kept told held is.
     let D = g.D.Disk in
     let disk = c.args.disk.now in
     let rests = c.requires.rests told in
-    stays _ _ _ _ _ (all_give g.G.LogStore.holds g.T.MetaStore.holds g.M.StateMachine.holds _ _ _ _ _ _ _ is
+    stays _ _ _ _ _ (all_give g.G.LogStore.holds.of g.T.MetaStore.holds.of g.M.StateMachine.holds.of _ _ _ _ _ _ _ is
     (gives_now _ (g.G.LogStore.shown c.args.log).rests _ _ _ _ (λ files. g.met.D.Disk.images_now disk files told)
-    (λ files rest at. g.met.G.LogStore.lies.rests_hold c.args.log (D.content disk) files c.requires.log_ready rest at) rests.log)
+    (λ files rest at. g.met.G.LogStore.lies.rests_hold held.0 c.args.log (D.content disk) files c.requires.log_ready rest at) rests.log)
     (gives_now _ (g.T.MetaStore.shown c.args.meta).rests _ _ _ _ (λ files. g.met.D.Disk.images_now disk files told)
-    (λ files rest at. g.met.T.MetaStore.lies.rests_hold c.args.meta (D.content disk) files c.requires.meta_ready rest at) rests.meta)
+    (λ files rest at. g.met.T.MetaStore.lies.rests_hold held.1 c.args.meta (D.content disk) files c.requires.meta_ready rest at) rests.meta)
     (gives_now _ (AtRest (g.M.StateMachine.shown c.args.state) (g.M.StateMachine.map c.args.state)) _ _ _ _ (λ files. g.met.D.Disk.images_now disk files told)
-    (λ files rest at. rest_hold g.met.M.StateMachine.lies c.args.state (g.M.StateMachine.map c.args.state) (D.content disk) files c.requires.state_ready rest at) rests.state))
+    (λ files rest at. rest_hold g.met.M.StateMachine.lies held.2 c.args.state (g.M.StateMachine.map c.args.state) (D.content disk) files c.requires.state_ready rest at) rests.state))
 
 pub returns-in-Some-clause-refused : goal.returns-in-Some-clause-refused
 returns-in-Some-clause-refused g c = inl (refused_here _ (g.G.LogStore.shown c.args.log).value (g.T.MetaStore.shown c.args.meta).value (g.M.StateMachine.map c.args.state) _ _ _ _

@@ -3,14 +3,14 @@ use Rattle.den_core.specs.Parts.{durable_of, IsCaughtUp}
 use Rattle.den_core.proofs.CatchUp.{left_is, left_again, left_in_order, left_caught_up, left_applied}
 use Rattle.den_core.proofs.Quiet.{stays}
 use Rattle.den_core.proofs.Spared.{gives_now, same_gives, spared, state_moves, apart_own, log_state, meta_state, snapshot_state, spares_by}
-use Rattle.den_core.proofs.opening.catch_up.Goals as goal
+use Rattle.den_core.proofs.recovery.catch_up.Goals as goal
 
 pub apply_all-requires-clause-in_order : goal.apply_all-requires-clause-in_order
 apply_all-requires-clause-in_order g c = left_in_order (g.G.LogStore.shown c.args.log).value (g.M.StateMachine.map c.args.state) _ c.requires.left
 
 -- the map moved, or did not
 pub returns-in_err-apply_all-clause-survives : goal.returns-in_err-apply_all-clause-survives
-returns-in_err-apply_all-clause-survives g c = λ kept told is.
+returns-in_err-apply_all-clause-survives g c = λ kept told held is.
     let D = g.D.Disk in
     let disk = c.args.disk.now in
     let rests = c.requires.rests told in
@@ -18,18 +18,18 @@ returns-in_err-apply_all-clause-survives g c = λ kept told is.
     let h = (g.T.MetaStore.shown c.args.meta).value in
     let s = g.M.StateMachine.map c.args.state in
     let left = c.requires.left in
-    stays _ _ _ _ _ (same_gives _ _ _ _ _ (state_moves g.G.LogStore.holds g.T.MetaStore.holds g.M.StateMachine.holds _ _ _ _ _ _ _ _ _
+    stays _ _ _ _ _ (same_gives _ _ _ _ _ (state_moves g.G.LogStore.holds.of g.T.MetaStore.holds.of g.M.StateMachine.holds.of _ _ _ _ _ _ _ _ _
     is (left_again l s _ left h ∙ sym (left_is l s _ left h) ∙ is)
     (spared _ _ _ _ _ _ _ _ log_state g.met.G.LogStore.lies.holds_own
     (gives_now _ (g.G.LogStore.shown c.args.log).rests _ _ _ _ (λ files. g.met.D.Disk.images_now disk files told)
-    (λ files rest at. g.met.G.LogStore.lies.rests_hold c.args.log (D.content disk) files c.requires.log_ready rest at) rests.log) (c.apply_all.ensures.others told))
+    (λ files rest at. g.met.G.LogStore.lies.rests_hold held.0 c.args.log (D.content disk) files c.requires.log_ready rest at) rests.log) (c.apply_all.ensures.others told))
     (spared _ _ _ _ _ _ _ _ meta_state g.met.T.MetaStore.lies.holds_own
     (gives_now _ (g.T.MetaStore.shown c.args.meta).rests _ _ _ _ (λ files. g.met.D.Disk.images_now disk files told)
-    (λ files rest at. g.met.T.MetaStore.lies.rests_hold c.args.meta (D.content disk) files c.requires.meta_ready rest at) rests.meta) (c.apply_all.ensures.others told))
-    (c.apply_all.ensures.own told)))
+    (λ files rest at. g.met.T.MetaStore.lies.rests_hold held.1 c.args.meta (D.content disk) files c.requires.meta_ready rest at) rests.meta) (c.apply_all.ensures.others told))
+    (c.apply_all.ensures.own told held.2)))
 
 pub returns-clause-survives : goal.returns-clause-survives
-returns-clause-survives g c = λ kept told is.
+returns-clause-survives g c = λ kept told held is.
     let D = g.D.Disk in
     let disk = c.args.disk.now in
     let rests = c.requires.rests told in
@@ -37,15 +37,15 @@ returns-clause-survives g c = λ kept told is.
     let h = (g.T.MetaStore.shown c.args.meta).value in
     let s = g.M.StateMachine.map c.args.state in
     let left = c.requires.left in
-    stays _ _ _ _ _ (same_gives _ _ _ _ _ (state_moves g.G.LogStore.holds g.T.MetaStore.holds g.M.StateMachine.holds _ _ _ _ _ _ _ _ _
+    stays _ _ _ _ _ (same_gives _ _ _ _ _ (state_moves g.G.LogStore.holds.of g.T.MetaStore.holds.of g.M.StateMachine.holds.of _ _ _ _ _ _ _ _ _
     is (left_again l s _ left h ∙ sym (left_is l s _ left h) ∙ is)
     (spared _ _ _ _ _ _ _ _ log_state g.met.G.LogStore.lies.holds_own
     (gives_now _ (g.G.LogStore.shown c.args.log).rests _ _ _ _ (λ files. g.met.D.Disk.images_now disk files told)
-    (λ files rest at. g.met.G.LogStore.lies.rests_hold c.args.log (D.content disk) files c.requires.log_ready rest at) rests.log) (c.apply_all.ensures.others told))
+    (λ files rest at. g.met.G.LogStore.lies.rests_hold held.0 c.args.log (D.content disk) files c.requires.log_ready rest at) rests.log) (c.apply_all.ensures.others told))
     (spared _ _ _ _ _ _ _ _ meta_state g.met.T.MetaStore.lies.holds_own
     (gives_now _ (g.T.MetaStore.shown c.args.meta).rests _ _ _ _ (λ files. g.met.D.Disk.images_now disk files told)
-    (λ files rest at. g.met.T.MetaStore.lies.rests_hold c.args.meta (D.content disk) files c.requires.meta_ready rest at) rests.meta) (c.apply_all.ensures.others told))
-    (c.apply_all.ensures.own told)))
+    (λ files rest at. g.met.T.MetaStore.lies.rests_hold held.1 c.args.meta (D.content disk) files c.requires.meta_ready rest at) rests.meta) (c.apply_all.ensures.others told))
+    (c.apply_all.ensures.own told held.2)))
 
 pub new-requires-clause-caught_up : goal.new-requires-clause-caught_up
 new-requires-clause-caught_up g c = subst (λ s. IsCaughtUp (g.G.LogStore.shown c.args.log).value s) (sym c.in_ok-apply_all.ensures.applied)
