@@ -1,36 +1,36 @@
 -- The statuses of a run's answers, and their causes.
-use Rattle.std.proofs.Common.{◌≡◌, ◌⊎◌, inl, inr, ⊎_elim, ◌++◌, ℕ, List, Option, Some, None, Result, Ok, Err, IfErr, IfSome, OnOk, refl, ◌∙◌, ap, subst}
+use Rattle.std.proofs.Common.{◌≡◌, ◌⊎◌, inl, inr, ⊎_elim, ◌++◌, ℕ, List, Option, Some, None, Result, Ok, Err, IfErr, IfSome, IsOk, OnOk, refl, ◌∙◌, ap, subst}
 use Rattle.den_disk.specs.Goes.{IsPrefix}
 use Rattle.den_codec.specs.declared.error.Error.{Error}
 use Rattle.den_codec.specs.declared.error.Error.TheVariants as error
-use Rattle.den_server.specs.Causes.{IsRunRefusal, IsTurnedAway, IsFullOf, IsMuch}
+use Rattle.den_server.specs.Causes.{IsRunRefusal, IsTurnedAway}
 use Rattle.den_program.specs.Serving.{HasStatus, IsRefusedStatus, IsLine, IsLineFront}
 use Rattle.den_program.specs.Status.{status_of, status_of_error, line_of, line_of_error, status_line, IsWrittenFront}
 
-module _ (disk_rose link_rose told : Type 0) (most bytes : ℕ) (refusal : Option Error) where
+module _ (disk_rose link_rose told : Type 0) (refusal : Option Error) (most held taken : ℕ) where
   abbrev H : ℕ → Type 0
-  H status = HasStatus disk_rose link_rose (IsMuch most bytes) told refusal status
+  H status = HasStatus disk_rose link_rose told refusal most held taken status
 
-  error_status : (e : Error) → (told → IsFullOf most bytes e) → IsRunRefusal disk_rose link_rose most told refusal e → H (status_of_error e)
-  error_status error.OutOfMemory full h = record { known = refl; storage = λ e. absurd (cc e); link = λ e. absurd (cc e); disk = λ e. absurd (cc e); corrupt = λ e. absurd (cc e); lease = λ e. absurd (cc e); exhausted = λ e. absurd (cc e) }
-  error_status error.StorageIoError full h = record { known = refl; storage = λ e. h; link = λ e. absurd (cc e); disk = λ e. absurd (cc e); corrupt = λ e. absurd (cc e); lease = λ e. absurd (cc e); exhausted = λ e. absurd (cc e) }
-  error_status error.LinkFault full h = record { known = refl; storage = λ e. absurd (cc e); link = λ e. h; disk = λ e. absurd (cc e); corrupt = λ e. absurd (cc e); lease = λ e. absurd (cc e); exhausted = λ e. absurd (cc e) }
-  error_status (error.DiskFull needed limit) full h = record { known = refl; storage = λ e. absurd (cc e); link = λ e. absurd (cc e); disk = λ e t. (full t, h.2 t); corrupt = λ e. absurd (cc e); lease = λ e. absurd (cc e); exhausted = λ e. absurd (cc e) }
-  error_status (error.DataCorruption place offset) full h = record { known = refl; storage = λ e. absurd (cc e); link = λ e. absurd (cc e); disk = λ e. absurd (cc e); corrupt = λ e t. (place, offset, h t); lease = λ e. absurd (cc e); exhausted = λ e. absurd (cc e) }
-  error_status error.FeatureNotEnabled full h = record { known = refl; storage = λ e. absurd (cc e); link = λ e. absurd (cc e); disk = λ e. absurd (cc e); corrupt = λ e. absurd (cc e); lease = λ e t. h t; exhausted = λ e. absurd (cc e) }
-  error_status error.ProposeFailed full h = record { known = refl; storage = λ e. absurd (cc e); link = λ e. absurd (cc e); disk = λ e. absurd (cc e); corrupt = λ e. absurd (cc e); lease = λ e. absurd (cc e); exhausted = λ e t. h t }
-  error_status (error.UnorderedChunk index) full h = absurd h
-  error_status (error.Config place) full h = absurd h
-  error_status error.StateMachineError full h = absurd h
+  error_status : (e : Error) → IsRunRefusal disk_rose link_rose told refusal most held taken e → H (status_of_error e)
+  error_status error.OutOfMemory h = record { known = refl; storage = λ e. absurd (cc e); link = λ e. absurd (cc e); disk = λ e. absurd (cc e); corrupt = λ e. absurd (cc e); lease = λ e. absurd (cc e); exhausted = λ e. absurd (cc e) }
+  error_status error.StorageIoError h = record { known = refl; storage = λ e. h; link = λ e. absurd (cc e); disk = λ e. absurd (cc e); corrupt = λ e. absurd (cc e); lease = λ e. absurd (cc e); exhausted = λ e. absurd (cc e) }
+  error_status error.LinkFault h = record { known = refl; storage = λ e. absurd (cc e); link = λ e. h; disk = λ e. absurd (cc e); corrupt = λ e. absurd (cc e); lease = λ e. absurd (cc e); exhausted = λ e. absurd (cc e) }
+  error_status (error.DiskFull needed limit) h = record { known = refl; storage = λ e. absurd (cc e); link = λ e. absurd (cc e); disk = λ e. (needed, h.1); corrupt = λ e. absurd (cc e); lease = λ e. absurd (cc e); exhausted = λ e. absurd (cc e) }
+  error_status (error.DataCorruption place offset) h = record { known = refl; storage = λ e. absurd (cc e); link = λ e. absurd (cc e); disk = λ e. absurd (cc e); corrupt = λ e t. (place, offset, h t); lease = λ e. absurd (cc e); exhausted = λ e. absurd (cc e) }
+  error_status error.FeatureNotEnabled h = record { known = refl; storage = λ e. absurd (cc e); link = λ e. absurd (cc e); disk = λ e. absurd (cc e); corrupt = λ e. absurd (cc e); lease = λ e t. h t; exhausted = λ e. absurd (cc e) }
+  error_status error.ProposeFailed h = record { known = refl; storage = λ e. absurd (cc e); link = λ e. absurd (cc e); disk = λ e. absurd (cc e); corrupt = λ e. absurd (cc e); lease = λ e. absurd (cc e); exhausted = λ e t. h t }
+  error_status (error.UnorderedChunk index) h = absurd h
+  error_status (error.Config place) h = absurd h
+  error_status error.StateMachineError h = absurd h
 
-  pub has_status : (r : Option (Result (Unit {0}) Error)) → (r ≡ None → ⊥) → (told → IfSome r (λ a. IfErr a (IsFullOf most bytes))) → IfSome r (λ a. IfErr a (IsRunRefusal disk_rose link_rose most told refusal))
+  pub has_status : (r : Option (Result (Unit {0}) Error)) → (r ≡ None → ⊥) → IfSome r (λ a. IfErr a (IsRunRefusal disk_rose link_rose told refusal most held taken))
       → H (status_of r)
-  has_status None some full h = absurd (some refl)
-  has_status (Some (Ok done)) some full h = record { known = refl; storage = λ e. absurd (cc e); link = λ e. absurd (cc e); disk = λ e. absurd (cc e); corrupt = λ e. absurd (cc e); lease = λ e. absurd (cc e); exhausted = λ e. absurd (cc e) }
-  has_status (Some (Err e)) some full h = error_status e full h
+  has_status None some h = absurd (some refl)
+  has_status (Some (Ok done)) some h = record { known = refl; storage = λ e. absurd (cc e); link = λ e. absurd (cc e); disk = λ e. absurd (cc e); corrupt = λ e. absurd (cc e); lease = λ e. absurd (cc e); exhausted = λ e. absurd (cc e) }
+  has_status (Some (Err e)) some h = error_status e h
 
   -- the error of status 8 is that of the refusal
-  names_error : (e : Error) → IsRunRefusal disk_rose link_rose most told refusal e → (place : ℕ) × (offset : ℕ)
+  names_error : (e : Error) → IsRunRefusal disk_rose link_rose told refusal most held taken e → (place : ℕ) × (offset : ℕ)
       × (told → status_of_error e ≡ 8 → refusal ≡ Some (error.DataCorruption place offset)) × (line_of_error e ≡ status_line (status_of_error e) place offset)
   names_error (error.DataCorruption place offset) h = (place, offset, (λ t is. h t), refl)
   names_error error.OutOfMemory h = (0, 0, (λ t is. absurd (cc is)), refl)
@@ -43,17 +43,17 @@ module _ (disk_rose link_rose told : Type 0) (most bytes : ℕ) (refusal : Optio
   names_error (error.Config place) h = absurd h
   names_error error.StateMachineError h = absurd h
 
-  names : (r : Option (Result (Unit {0}) Error)) → IfSome r (λ a. IfErr a (IsRunRefusal disk_rose link_rose most told refusal)) → (place : ℕ) × (offset : ℕ)
+  names : (r : Option (Result (Unit {0}) Error)) → IfSome r (λ a. IfErr a (IsRunRefusal disk_rose link_rose told refusal most held taken)) → (place : ℕ) × (offset : ℕ)
       × (told → status_of r ≡ 8 → refusal ≡ Some (error.DataCorruption place offset)) × (line_of r ≡ status_line (status_of r) place offset)
   names None h = (0, 0, (λ t is. absurd (cc is)), refl)
   names (Some (Ok done)) h = (0, 0, (λ t is. absurd (cc is)), refl)
   names (Some (Err e)) h = names_error e h
 
-  pub line_is : (r : Option (Result (Unit {0}) Error)) (old new : List ℕ) → IfSome r (λ a. IfErr a (IsRunRefusal disk_rose link_rose most told refusal)) → new ≡ old ++ line_of r
+  pub line_is : (r : Option (Result (Unit {0}) Error)) (old new : List ℕ) → IfSome r (λ a. IfErr a (IsRunRefusal disk_rose link_rose told refusal most held taken)) → new ≡ old ++ line_of r
       → IsLine told refusal (status_of r) old new
   line_is r old new h written = let n = names r h in record { place = n.0; offset = n.1; names = n.2; written = written ∙ ap (λ l. old ++ l) n.3 }
 
-  pub front_is : (r : Option (Result (Unit {0}) Error)) (old new : List ℕ) → IfSome r (λ a. IfErr a (IsRunRefusal disk_rose link_rose most told refusal)) → IsWrittenFront (line_of r) old new
+  pub front_is : (r : Option (Result (Unit {0}) Error)) (old new : List ℕ) → IfSome r (λ a. IfErr a (IsRunRefusal disk_rose link_rose told refusal most held taken)) → IsWrittenFront (line_of r) old new
       → IsLineFront told refusal (status_of r) old new
   front_is r old new h w = let n = names r h in record { place = n.0; offset = n.1; names = n.2; front = w.0; is_front = subst (λ (l : List ℕ). IsPrefix w.0 l) n.3 w.1; written = w.2 }
 
@@ -87,6 +87,10 @@ error_not_2 error.StateMachineError is = cc is
 pub at_ok : {P : Type 0} (r : Result (Unit {0}) Error) → Some r ≡ Some (Ok tt) → OnOk r P → P
 at_ok (Ok done) is p = p
 at_ok (Err e) is p = absurd (cc is)
+
+pub some_ok : (r : Result (Unit {0}) Error) → Some r ≡ Some (Ok tt) → IsOk r
+some_ok (Ok done) is = refl
+some_ok (Err e) is = absurd (cc is)
 
 pub ok_at_0 : (r : Option (Result (Unit {0}) Error)) → status_of r ≡ 0 → r ≡ Some (Ok (record {}))
 ok_at_0 None is = absurd (cc is)

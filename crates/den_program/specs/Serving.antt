@@ -1,23 +1,24 @@
 -- What the program serves with: the default configuration.
-use Rattle.std.specs.Prelude.{◌≡◌, ◌⊎◌, ◌==◌, ◌||◌, ◌++◌, ℕ, pos, Bool, true, false, List, Option, Some, None}
-use Rattle.den_disk.specs.Goes.{IsPrefix}
+use Rattle.std.specs.Prelude.{◌≡◌, ◌⊎◌, ◌==◌, ◌||◌, ◌++◌, ◌-◌, ℕ, pos, Bool, true, false, List, Option, Some, None, IsTrue}
+use Rattle.den_disk.specs.declared.disk.Disk.{Ghosts as Disks}
+use Rattle.den_disk.specs.declared.link.Link.{Ghosts as Links}
+use Rattle.den_disk.specs.Goes.{IsPrefix, Rose}
 use Rattle.den_codec.specs.declared.error.Error.{Error}
 use Rattle.den_codec.specs.declared.error.Error.TheVariants.{DataCorruption, FeatureNotEnabled, ProposeFailed}
 use Rattle.den_model.specs.declared.running.Setting.{Setting}
-use Rattle.den_model.specs.Kv.{Durable, Kv, running_at_entry}
+use Rattle.den_model.specs.Kv.{running_at_entry}
+use Rattle.den_model.specs.Sizes.{files_size}
 use Rattle.den_codec.specs.Standard.{standard_nodes}
+use Rattle.den_server.specs.Causes.{IsFull}
+use Rattle.den_server.specs.Opening.{refusal_in}
+use Rattle.den_server.specs.Promises.{RunConfig}
 use Rattle.den_program.specs.Status.{status_line}
 
 abbrev pub standard_setting : Setting
 standard_setting = record { role = pos 2; hint = None; lease = false; interval = 1000; maximum = 1000; buffer = 64 }
 
--- what a run begins with, over files that stand for this
-abbrev pub start : Durable → Kv
-start kept = record { durable = kept; running = running_at_entry standard_setting standard_nodes 1 }
-
--- the longest body of a request's frame
-abbrev pub frame_limit : ℕ
-frame_limit = 16777216
+abbrev pub standard_run : RunConfig
+standard_run = record { running = running_at_entry standard_setting standard_nodes 1; frame_limit = 16777216 }
 
 abbrev pub is_status : ℕ → Bool
 is_status n = n == 0 || n == 1 || n == 5 || n == 6 || n == 7 || n == 8 || n == 9 || n == 10
@@ -27,15 +28,20 @@ abbrev pub IsCorrupt : Option Error → Type 0
 IsCorrupt refusal = (place : ℕ) × (offset : ℕ) × (refusal ≡ Some (DataCorruption place offset))
 
 -- The statuses of serving and their causes: 5 and 6 only where the count of faults of the disk or the link rose, 7 only
--- where much was held and taken; 8 to 10 only for what files are refused, where the disk tells.
-pub record HasStatus (disk_rose link_rose full told : Type 0) (refusal : Option Error) (status : ℕ) : Type 0 where
+-- where a room in whole chunks is above the disk's limit; 8 to 10 only for what files are refused, where the disk tells.
+pub record HasStatus (disk_rose link_rose told : Type 0) (refusal : Option Error) (most held taken status : ℕ) : Type 0 where
   pub known : is_status status ≡ true
   pub storage : status ≡ 5 → disk_rose
   pub link : status ≡ 6 → link_rose
-  pub disk : status ≡ 7 → told → full × (refusal ≡ None)
+  pub disk : status ≡ 7 → (needed : ℕ) × IsFull told refusal most held taken needed
   pub corrupt : status ≡ 8 → told → IsCorrupt refusal
   pub lease : status ≡ 9 → told → refusal ≡ Some FeatureNotEnabled
   pub exhausted : status ≡ 10 → told → refusal ≡ Some ProposeFailed
+
+-- the same, of what serving is lent
+abbrev pub EndsWith : {D L : Type 0} (disk : Disks D) (link : Links L) (old new : D) (from to : L) (status : ℕ) → Type 0
+EndsWith disk link old new from to status = HasStatus (Rose (disk.faults old) (disk.faults new)) (Rose (link.faults from) (link.faults to)) (IsTrue (disk.kind old).tells) (refusal_in (disk.content old).reading)
+    (disk.kind old).limit (files_size (disk.content old).reading) (link.taken to - link.taken from) status
 
 -- the statuses of serving files that are refused: that of the refusal, want of memory, or a fault of the disk
 abbrev pub IsRefusedStatus : ℕ → ℕ → Type 0

@@ -1,11 +1,11 @@
 -- What a folder's files are refused for, by what was read of them.
-use Rattle.std.proofs.Common.{cond, nat_lt, List, [], ◌∷◌, length, ◌≡◌, ⊎_elim, ◌≤◌, ◌+◌, IsTrue, IsSome, ℕ, Bool, true, false, Option, Some, None, Result, Ok, Err, OnOk, IfOk, IfErr, IsOk, if◌then◌else◌, refl, sym, ◌∙◌, ap, subst, arith}
+use Rattle.std.proofs.Common.{cond, nat_lt, List, [], ◌∷◌, length, ◌≡◌, ⊎_elim, ◌<◌, ◌≤◌, ◌+◌, ◌*◌, IsSome, ℕ, Bool, true, false, Option, Some, None, Result, Ok, Err, OnOk, IfOk, IfErr, IsOk, if◌then◌else◌, refl, sym, ◌∙◌, ap, subst, arith}
 use Rattle.den_disk.specs.declared.place.Family.TheVariants as family
 use Rattle.den_disk.specs.Place.{place_number}
 use Rattle.den_disk.specs.Files.{Files}
 use Rattle.den_codec.specs.declared.error.Error.{Error}
 use Rattle.den_codec.specs.declared.error.Error.TheVariants as error
-use Rattle.den_codec.specs.Full.{IsHeavy}
+use Rattle.den_core.specs.Full.{IsFullBy}
 use Rattle.den_model.specs.declared.log_id.HardState.{HardState}
 use Rattle.den_model.specs.Entries.{LogEntry}
 use Rattle.den_model.specs.Sizes.{entries_size}
@@ -18,8 +18,8 @@ use Rattle.den_journal.specs.Causes.{IsRefusal}
 use Rattle.den_store.specs.Engine.{IsFirstCorrupt}
 use Rattle.den_journal.specs.Folding.{IsUnread}
 use Rattle.den_core.specs.Opening.{refusal_for, opening_refusal, is_exhausted, IsOpeningFailure}
-use Rattle.den_server.specs.Causes.{IsUnreadFolder, IsOpeningRefusal}
-use Rattle.den_server.specs.Opening.{lease_asked, refusal_in, IsRead}
+use Rattle.den_server.specs.Causes.{IsUnreadFolder, IsMuch, IsRunRefusal}
+use Rattle.den_server.specs.Opening.{lease_asked, refusal_in, opened_weight, IsRead}
 
 -- ---- the definition, by what each family gives
 
@@ -85,54 +85,44 @@ unread_refused rose rose' told refusal corrupt (error.UnorderedChunk index) grow
 unread_refused rose rose' told refusal corrupt (error.Config place) grow sound h = absurd h
 unread_refused rose rose' told refusal corrupt error.StateMachineError grow sound h = absurd h
 
-pub folder_refused : (rose told : Type 0) (most : ℕ) (refusal : Option Error) (e : Error) → IsUnreadFolder rose told refusal e → IsOpeningRefusal rose most told refusal e
-folder_refused rose told most refusal error.OutOfMemory h = h
-folder_refused rose told most refusal error.StorageIoError h = h
-folder_refused rose told most refusal (error.DataCorruption place offset) h = h
-folder_refused rose told most refusal (error.DiskFull needed limit) h = absurd h
-folder_refused rose told most refusal error.LinkFault h = absurd h
-folder_refused rose told most refusal error.FeatureNotEnabled h = absurd h
-folder_refused rose told most refusal error.ProposeFailed h = absurd h
-folder_refused rose told most refusal (error.UnorderedChunk index) h = absurd h
-folder_refused rose told most refusal (error.Config place) h = absurd h
-folder_refused rose told most refusal error.StateMachineError h = absurd h
+pub folder_refused : (rose told : Type 0) (refusal : Option Error) (most held : ℕ) (e : Error) → IsUnreadFolder rose told refusal e → IsRunRefusal rose ⊥ told refusal most held 0 e
+folder_refused rose told refusal most held error.OutOfMemory h = h
+folder_refused rose told refusal most held error.StorageIoError h = h
+folder_refused rose told refusal most held (error.DataCorruption place offset) h = h
+folder_refused rose told refusal most held (error.DiskFull needed limit) h = absurd h
+folder_refused rose told refusal most held error.LinkFault h = absurd h
+folder_refused rose told refusal most held error.FeatureNotEnabled h = absurd h
+folder_refused rose told refusal most held error.ProposeFailed h = absurd h
+folder_refused rose told refusal most held (error.UnorderedChunk index) h = absurd h
+folder_refused rose told refusal most held (error.Config place) h = absurd h
+folder_refused rose told refusal most held error.StateMachineError h = absurd h
 
--- reading a folder never finds the disk full
-pub folder_light : (rose told : Type 0) (refusal : Option Error) (most weight : ℕ) (e : Error) → IsUnreadFolder rose told refusal e → IsHeavy most weight e
-folder_light rose told refusal most weight error.OutOfMemory h = record {}
-folder_light rose told refusal most weight error.StorageIoError h = record {}
-folder_light rose told refusal most weight (error.DataCorruption place offset) h = record {}
-folder_light rose told refusal most weight (error.DiskFull needed limit) h = absurd h
-folder_light rose told refusal most weight error.LinkFault h = record {}
-folder_light rose told refusal most weight error.FeatureNotEnabled h = record {}
-folder_light rose told refusal most weight error.ProposeFailed h = record {}
-folder_light rose told refusal most weight (error.UnorderedChunk index) h = record {}
-folder_light rose told refusal most weight (error.Config place) h = record {}
-folder_light rose told refusal most weight error.StateMachineError h = record {}
+much_opened : (most weight held : ℕ) → weight ≤ opened_weight held → most < 4 * weight → IsMuch most (held + 0)
+much_opened most weight held le h = omega (arith, h, le)
 
-pub heavier : (most weight more : ℕ) (e : Error) → weight ≤ more → IsHeavy most weight e → IsHeavy most more e
-heavier most weight more (error.DiskFull needed limit) le h = omega (arith, h)
-heavier most weight more error.OutOfMemory le h = h
-heavier most weight more error.StorageIoError le h = h
-heavier most weight more (error.DataCorruption place offset) le h = h
-heavier most weight more error.LinkFault le h = h
-heavier most weight more error.FeatureNotEnabled le h = h
-heavier most weight more error.ProposeFailed le h = h
-heavier most weight more (error.UnorderedChunk index) le h = h
-heavier most weight more (error.Config place) le h = h
-heavier most weight more error.StateMachineError le h = h
-
-disk_refused : (rose rose' told : Type 0) (most : ℕ) (refusal : Option Error) (e : Error) → (rose → rose') → (told → refusal ≡ None) → IsRefusal rose most e → IsOpeningRefusal rose' most told refusal e
-disk_refused rose rose' told most refusal error.OutOfMemory grow none h = h
-disk_refused rose rose' told most refusal error.StorageIoError grow none h = grow h
-disk_refused rose rose' told most refusal (error.DiskFull needed limit) grow none h = (h.0, h.1, none)
-disk_refused rose rose' told most refusal (error.DataCorruption place offset) grow none h = absurd h
-disk_refused rose rose' told most refusal error.LinkFault grow none h = absurd h
-disk_refused rose rose' told most refusal error.FeatureNotEnabled grow none h = absurd h
-disk_refused rose rose' told most refusal error.ProposeFailed grow none h = absurd h
-disk_refused rose rose' told most refusal (error.UnorderedChunk index) grow none h = absurd h
-disk_refused rose rose' told most refusal (error.Config place) grow none h = absurd h
-disk_refused rose rose' told most refusal error.StateMachineError grow none h = absurd h
+-- the disk refuses what opening writes
+disk_refused : (rose rose' told : Type 0) (refusal : Option Error) (most weight held : ℕ) (e : Error) → (rose → rose') → (told → refusal ≡ None) → (told → weight ≤ opened_weight held)
+    → IsRefusal rose most e → IsFullBy most weight e → IsRunRefusal rose' ⊥ told refusal most held 0 e
+disk_refused rose rose' told refusal most weight held error.OutOfMemory grow none light h full = h
+disk_refused rose rose' told refusal most weight held error.StorageIoError grow none light h full = grow h
+disk_refused rose rose' told refusal most weight held (error.DataCorruption place offset) grow none light h full = absurd h
+disk_refused rose rose' told refusal most weight held (error.DiskFull needed limit) grow none light h full = (
+  h.1,
+  record {
+    size = full.1;
+    room = full.3;
+    above = subst (λ n. n < needed) h.1 h.0;
+    accepted = none;
+    bounded = λ t. omega (arith, full.2, light t);
+    much = λ t. much_opened most weight held (light t) full.0;
+  },
+)
+disk_refused rose rose' told refusal most weight held error.LinkFault grow none light h full = absurd h
+disk_refused rose rose' told refusal most weight held error.FeatureNotEnabled grow none light h full = absurd h
+disk_refused rose rose' told refusal most weight held error.ProposeFailed grow none light h full = absurd h
+disk_refused rose rose' told refusal most weight held (error.UnorderedChunk index) grow none light h full = absurd h
+disk_refused rose rose' told refusal most weight held (error.Config place) grow none light h full = absurd h
+disk_refused rose rose' told refusal most weight held error.StateMachineError grow none light h full = absurd h
 
 some_is : (e d : Error) → Some d ≡ Some e → d ≡ e
 some_is e d p = cc p
@@ -147,12 +137,13 @@ refusal_kind P place false (Some d) e corrupt feature propose p = exhausted (is_
   exhausted true q = subst P (some_is e error.ProposeFailed q) propose
   exhausted false q = absurd (cc q)
 
-pub failure_refused : (rose rose' told : Type 0) (most place : ℕ) (refusal : Option Error) (l : Log) (h : Option HardState) (s : MapState) (e : Error) → (rose → rose')
-    → (told → refusal ≡ opening_refusal place l h s) → IsOpeningFailure rose most (opening_refusal place l h s) e → IsOpeningRefusal rose' most told refusal e
-failure_refused rose rose' told most place refusal l h s e grow same failure = ⊎_elim
-    (λ is. refusal_kind (λ f. (told → refusal ≡ Some f) → IsOpeningRefusal rose' most told refusal f) place _ (durable l h s) e (λ r. r) (λ r. r) (λ r. r) is (λ t. same t ∙ is))
-    (λ other. ⊎_elim (λ memory. subst (IsOpeningRefusal rose' most told refusal) (sym memory) (record {}))
-    (λ disk. disk_refused rose rose' told most refusal e grow (λ t. same t ∙ disk.0) disk.1) other)
+pub failure_refused : (rose rose' told : Type 0) (refusal : Option Error) (most weight held place : ℕ) (l : Log) (h : Option HardState) (s : MapState) (e : Error) → (rose → rose')
+    → (told → refusal ≡ opening_refusal place l h s) → (told → weight ≤ opened_weight held) → IsOpeningFailure rose most (opening_refusal place l h s) e → IsFullBy most weight e
+    → IsRunRefusal rose' ⊥ told refusal most held 0 e
+failure_refused rose rose' told refusal most weight held place l h s e grow same light failure full = ⊎_elim
+    (λ is. refusal_kind (λ f. (told → refusal ≡ Some f) → IsRunRefusal rose' ⊥ told refusal most held 0 f) place _ (durable l h s) e (λ r. r) (λ r. r) (λ r. r) is (λ t. same t ∙ is))
+    (λ other. ⊎_elim (λ memory. subst (IsRunRefusal rose' ⊥ told refusal most held 0) (sym memory) (record {}))
+    (λ disk. disk_refused rose rose' told refusal most weight held e grow (λ t. same t ∙ disk.0) light disk.1 full) other)
     failure
 
 -- an error that refuses is some
@@ -164,6 +155,10 @@ some_refused refusal other e same is = subst IsSome (sym is ∙ same) refl
 pub if_err_weaker : {T E : Type 0} (r : Result T E) (P Q : E → Type 0) → ((e : E) → P e → Q e) → IfErr r P → IfErr r Q
 if_err_weaker (Ok x) P Q f p = record {}
 if_err_weaker (Err e) P Q f p = f e p
+
+pub if_err_two : {T E : Type 0} (r : Result T E) (P Q R : E → Type 0) → ((e : E) → P e → Q e → R e) → IfErr r P → IfErr r Q → IfErr r R
+if_err_two (Ok x) P Q R f p q = record {}
+if_err_two (Err e) P Q R f p q = f e p q
 
 pub if_ok_weaker : {T E : Type 0} (r : Result T E) (P Q : T → Type 0) → ((x : T) → P x → Q x) → IfOk r P → IfOk r Q
 if_ok_weaker (Ok x) P Q f p = f x p

@@ -1,5 +1,6 @@
 -- Why a run ends early.
-use Rattle.std.specs.Prelude.{◌≡◌, ◌<◌, ◌⊎◌, ◌+◌, ◌*◌, ℕ, Option, Some, None, Result, OnOk, IfErr}
+use Rattle.std.specs.Prelude.{◌≡◌, ◌<◌, ◌≤◌, ◌⊎◌, ◌+◌, ◌*◌, ℕ, Option, Some, None, Result, OnOk, IfErr}
+use Rattle.den_gate.specs.Slot.{room_for}
 use Rattle.den_codec.specs.declared.error.Error.{Error}
 use Rattle.den_codec.specs.declared.error.Error.TheVariants.{OutOfMemory, StorageIoError, DiskFull, LinkFault, DataCorruption, FeatureNotEnabled, ProposeFailed, UnorderedChunk, Config, StateMachineError}
 
@@ -17,49 +18,35 @@ IsUnreadFolder disk_rose told refusal (UnorderedChunk index) = ⊥
 IsUnreadFolder disk_rose told refusal (Config place) = ⊥
 IsUnreadFolder disk_rose told refusal StateMachineError = ⊥
 
--- of the opening of a folder: want of memory; a fault of the disk where its count rose; a file that would pass the
--- disk's limit, where the files are not refused; and, where the disk tells its bytes, exactly what they are refused for
-abbrev pub IsOpeningRefusal : (disk_rose : Type 0) (most : ℕ) (told : Type 0) (refusal : Option Error) → Error → Type 0
-IsOpeningRefusal disk_rose most told refusal OutOfMemory = Unit {0}
-IsOpeningRefusal disk_rose most told refusal StorageIoError = disk_rose
-IsOpeningRefusal disk_rose most told refusal (DiskFull needed limit) = (limit < needed) × (limit ≡ most) × (told → refusal ≡ None)
-IsOpeningRefusal disk_rose most told refusal (DataCorruption place offset) = told → refusal ≡ Some (DataCorruption place offset)
-IsOpeningRefusal disk_rose most told refusal FeatureNotEnabled = told → refusal ≡ Some FeatureNotEnabled
-IsOpeningRefusal disk_rose most told refusal ProposeFailed = told → refusal ≡ Some ProposeFailed
-IsOpeningRefusal disk_rose most told refusal LinkFault = ⊥
-IsOpeningRefusal disk_rose most told refusal (UnorderedChunk index) = ⊥
-IsOpeningRefusal disk_rose most told refusal (Config place) = ⊥
-IsOpeningRefusal disk_rose most told refusal StateMachineError = ⊥
-
--- of a run: a refusal of its opening, or a fault of the link where its count rose
-abbrev pub IsRunRefusal : (disk_rose link_rose : Type 0) (most : ℕ) (told : Type 0) (refusal : Option Error) → Error → Type 0
-IsRunRefusal disk_rose link_rose most told refusal OutOfMemory = Unit {0}
-IsRunRefusal disk_rose link_rose most told refusal StorageIoError = disk_rose
-IsRunRefusal disk_rose link_rose most told refusal LinkFault = link_rose
-IsRunRefusal disk_rose link_rose most told refusal (DiskFull needed limit) = (limit < needed) × (limit ≡ most) × (told → refusal ≡ None)
-IsRunRefusal disk_rose link_rose most told refusal (DataCorruption place offset) = told → refusal ≡ Some (DataCorruption place offset)
-IsRunRefusal disk_rose link_rose most told refusal FeatureNotEnabled = told → refusal ≡ Some FeatureNotEnabled
-IsRunRefusal disk_rose link_rose most told refusal ProposeFailed = told → refusal ≡ Some ProposeFailed
-IsRunRefusal disk_rose link_rose most told refusal (UnorderedChunk index) = ⊥
-IsRunRefusal disk_rose link_rose most told refusal (Config place) = ⊥
-IsRunRefusal disk_rose link_rose most told refusal StateMachineError = ⊥
-
 -- so many bytes, of files and of input, are much beside the limit of a file
 abbrev pub IsMuch : (most bytes : ℕ) → Type 0
 IsMuch most bytes = most < 1024 * (bytes + 4096)
 
--- a disk is told to be full only where the bytes that it held and the bytes that were taken are so many
-abbrev pub IsFullOf : (most bytes : ℕ) → Error → Type 0
-IsFullOf most bytes (DiskFull needed limit) = IsMuch most bytes
-IsFullOf most bytes OutOfMemory = Unit {0}
-IsFullOf most bytes StorageIoError = Unit {0}
-IsFullOf most bytes LinkFault = Unit {0}
-IsFullOf most bytes (DataCorruption place offset) = Unit {0}
-IsFullOf most bytes FeatureNotEnabled = Unit {0}
-IsFullOf most bytes ProposeFailed = Unit {0}
-IsFullOf most bytes (UnorderedChunk index) = Unit {0}
-IsFullOf most bytes (Config place) = Unit {0}
-IsFullOf most bytes StateMachineError = Unit {0}
+-- A file would need so many bytes: the room of regions of some size with the gate behind them, in whole chunks, which is
+-- above the disk's limit. Where the disk tells its bytes, the files are not refused, that size is no more than what a run
+-- comes to over files with so many bytes of regions, which takes so many bytes, and both together are much.
+pub record IsFull (told : Type 0) (refusal : Option Error) (most held taken needed : ℕ) : Type 0 where
+  pub size : ℕ
+  pub room : needed ≡ room_for size 0
+  pub above : most < needed
+  pub accepted : told → refusal ≡ None
+  pub bounded : told → size ≤ 5120 + 8 * held + 256 * taken
+  pub much : told → IsMuch most (held + taken)
+
+-- Of a run, and of its opening, where no link is lent and nothing is taken: want of memory; a fault of the disk or the link
+-- where its count rose; a room that is above the disk's limit; and, where the disk tells its bytes, exactly what files are
+-- refused for.
+abbrev pub IsRunRefusal : (disk_rose link_rose told : Type 0) (refusal : Option Error) (most held taken : ℕ) → Error → Type 0
+IsRunRefusal disk_rose link_rose told refusal most held taken OutOfMemory = Unit {0}
+IsRunRefusal disk_rose link_rose told refusal most held taken StorageIoError = disk_rose
+IsRunRefusal disk_rose link_rose told refusal most held taken LinkFault = link_rose
+IsRunRefusal disk_rose link_rose told refusal most held taken (DiskFull needed limit) = (limit ≡ most) × IsFull told refusal most held taken needed
+IsRunRefusal disk_rose link_rose told refusal most held taken (DataCorruption place offset) = told → refusal ≡ Some (DataCorruption place offset)
+IsRunRefusal disk_rose link_rose told refusal most held taken FeatureNotEnabled = told → refusal ≡ Some FeatureNotEnabled
+IsRunRefusal disk_rose link_rose told refusal most held taken ProposeFailed = told → refusal ≡ Some ProposeFailed
+IsRunRefusal disk_rose link_rose told refusal most held taken (UnorderedChunk index) = ⊥
+IsRunRefusal disk_rose link_rose told refusal most held taken (Config place) = ⊥
+IsRunRefusal disk_rose link_rose told refusal most held taken StateMachineError = ⊥
 
 -- files that are refused are answered so, but for want of memory and faults of the disk
 abbrev pub IsTurnedAway : {T : Type 0} → Error → Result T Error → Type 0

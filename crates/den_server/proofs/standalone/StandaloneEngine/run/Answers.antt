@@ -1,4 +1,4 @@
-use Rattle.std.proofs.Common.{IsTrue, ◌-◌, length, refl, sym, subst, ap, ◌∙◌}
+use Rattle.std.proofs.Common.{IsTrue, arith, ◌-◌, length, refl, sym, subst, ap, ◌∙◌}
 use Rattle.std.proofs.lemmas.Result.{on_ok_weaker}
 use Rattle.den_disk.specs.Files.{Kind}
 use Rattle.den_disk.specs.Goes.{Rose, added}
@@ -9,7 +9,7 @@ use Rattle.den_model.specs.Kv.{Kv}
 use Rattle.den_model.specs.Plan.{plan_over}
 use Rattle.den_model.specs.Sizes.{files_size}
 use Rattle.den_codec.specs.declared.config.RaftNodeConfig.{RaftNodeConfig}
-use Rattle.den_codec.specs.Full.{IsHeavy}
+use Rattle.den_core.specs.Full.{IsFullBy}
 use Rattle.den_codec.specs.Standard.{entered}
 use Rattle.den_core.specs.Parts.{kv_of}
 use Rattle.den_core.specs.Refusals.{IsServeRefusal}
@@ -18,10 +18,13 @@ use Rattle.den_store.specs.FileLog.{log_shown}
 use Rattle.den_store.specs.FileMeta.{meta_shown}
 use Rattle.den_state.specs.FileState.{state_map}
 use Rattle.den_server.specs.Opening.{refusal_in, held_weight}
-use Rattle.den_server.proofs.Ended.{rose_then, opening_ended, serving_ended, away, refused_not_read, full_serving, full_opening}
-use Rattle.den_server.proofs.Refused.{if_err_weaker}
-use Rattle.den_server.proofs.Surviving.{reading_image, of_node, opening_then, no_reading, all_along, opening_front, served_from, log_same}
+use Rattle.den_server.proofs.Ended.{rose_then, opening_ended, serving_ended, away, refused_not_read, completed}
+use Rattle.den_server.specs.Promises.{run_config}
+use Rattle.den_server.proofs.Promised.{sends_prefix, survives_all_along, disk_alone}
+use Rattle.den_server.proofs.Refused.{if_err_two}
+use Rattle.den_server.proofs.Surviving.{of_node, opening_then, no_reading, served_from, log_same}
 use Rattle.den_disk.specs.declared.place.Family.TheVariants.{Snapshot as snapshot_family}
+use Rattle.den_core.proofs.GoesOn.{disk_twice}
 use Rattle.den_core.proofs.Spared.{spares_twice}
 use Rattle.den_server.proofs.standalone.StandaloneEngine.run.Goals as goal
 
@@ -37,36 +40,28 @@ returns-in-Err-clause-opening g c = λ kept told stands.
     (of_node durable_in (D.images first) (D.images last) (D.moment first) (D.moment last) _ _ _ _ kept c.node.ensures (c.in-Err.ensures.opening kept told.disk_tells stands))
 
 pub returns-in-Err-clause-any_moment : goal.returns-in-Err-clause-any_moment
-returns-in-Err-clause-any_moment g c = λ kept told stands.
-    let D = g.D.Disk in
-    let first = c.args.disk.now in
-    all_along durable_in (D.images first) (D.images c.open_folder.new.disk) (D.moment first) (D.moment c.open_folder.new.disk) _ _ _ _ _ stands
-    (returns-in-Err-clause-opening g c kept told
-    (stands.each (D.content first).reading ((g.met.D.Disk.images_now first (D.content first).reading told.disk_tells).1 (reading_image (D.content first)))))
+returns-in-Err-clause-any_moment g c = survives_all_along g.D.Disk g.L.Link g.C.Clock (run_config c.args.config.now.node) c.args.disk.now c.open_folder.new.disk c.args.link.now c.args.link.now c.args.clock.now c.args.clock.now _
+    (λ files. g.met.D.Disk.images_now c.args.disk.now files) (returns-in-Err-clause-opening g c)
 
 pub returns-in-Err-clause-prefix : goal.returns-in-Err-clause-prefix
-returns-in-Err-clause-prefix g c = λ kept told stands.
-    let D = g.D.Disk in
-    let first = c.args.disk.now in
-    let last = c.open_folder.new.disk in
-    let last_tells : IsTrue (D.kind last).tells = subst (λ (k : Kind). IsTrue k.tells) (sym c.open_folder.ensures.disk.same) told.disk_tells in
-    opening_front durable_in (D.images first) (D.images last) (D.moment first) (D.moment last) _ _ _ _ _ (D.content last).reading
-    ((g.met.D.Disk.images_now last (D.content last).reading last_tells).1 (reading_image (D.content last)))
-    (returns-in-Err-clause-opening g c kept told stands)
+returns-in-Err-clause-prefix g c = sends_prefix g.D.Disk g.L.Link g.C.Clock (run_config c.args.config.now.node) c.args.disk.now c.open_folder.new.disk c.args.link.now c.args.link.now c.args.clock.now c.args.clock.now _
+    c.open_folder.ensures.disk.same (λ files. g.met.D.Disk.images_now c.open_folder.new.disk files) (returns-in-Err-clause-opening g c)
 
 pub returns-in-Err-clause-refused : goal.returns-in-Err-clause-refused
 returns-in-Err-clause-refused g c =
     let D = g.D.Disk in
+    let L = g.L.Link in
     let first = c.args.disk.now in
-    opening_ended (Rose (D.faults first) (D.faults c.open_folder.new.disk)) (Rose (g.L.Link.faults c.args.link.now) (g.L.Link.faults c.args.link.now)) (IsTrue (D.kind first).tells) (D.kind first).limit
-    (refusal_in (D.content first).reading) c.in-Err.error c.in-Err.ensures.refused
+    opening_ended (Rose (D.faults first) (D.faults c.open_folder.new.disk)) (Rose (L.faults c.args.link.now) (L.faults c.args.link.now)) (IsTrue (D.kind first).tells) (refusal_in (D.content first).reading)
+    (D.kind first).limit (files_size (D.content first).reading) (L.taken c.args.link.now - L.taken c.args.link.now) c.in-Err.error c.in-Err.ensures.refused
 
 pub returns-in-Err-clause-turned_away : goal.returns-in-Err-clause-turned_away
 returns-in-Err-clause-turned_away g c = λ e told is.
-    ((record {}, away _ _ _ (refusal_in (g.D.Disk.content c.args.disk.now).reading) e c.in-Err.error told is c.in-Err.ensures.refused), c.open_folder.ensures.untouched e told is, refl, refl)
+    ((record {}, away _ _ (refusal_in (g.D.Disk.content c.args.disk.now).reading) _ _ e c.in-Err.error told is c.in-Err.ensures.refused), c.open_folder.ensures.untouched e told is, refl, refl)
 
-pub returns-in-Err-clause-full : goal.returns-in-Err-clause-full
-returns-in-Err-clause-full g c = λ told. full_opening _ _ _ c.in-Err.error (c.in-Err.ensures.heavy told)
+pub returns-in-Err-clause-goes_on : goal.returns-in-Err-clause-goes_on
+returns-in-Err-clause-goes_on g c =
+    disk_alone g.D.Disk g.L.Link g.C.Clock c.args.disk.now c.open_folder.new.disk c.args.link.now c.args.clock.now c.open_folder.ensures.disk c.open_folder.ensures.snapshot
 
 -- ---- the run
 
@@ -91,26 +86,15 @@ returns-clause-opening g c = λ kept told stands.
     (subst (λ (n : RaftNodeConfig). Survives durable_in (D.images last) (D.moment opened) (D.moment last)
     sent (kv_of ((meta_shown c.in-Ok.engine.meta).value) (state_map c.in-Ok.engine.state) c.in-Ok.engine.running)
     (plan_over (kv_of ((meta_shown c.in-Ok.engine.meta).value) (state_map c.in-Ok.engine.state) c.in-Ok.engine.running) n.network.max_frame_size (g.L.Link.left c.args.link.now) readings))
-    c.node-2.ensures (c.run_from.ensures.any_moment here))
+    c.node-2.ensures (c.run_from.ensures.any_moment here (tt, tt, tt)))
 
 pub returns-clause-any_moment : goal.returns-clause-any_moment
-returns-clause-any_moment g c = λ kept told stands.
-    let D = g.D.Disk in
-    let first = c.args.disk.now in
-    all_along durable_in (D.images first) (D.images c.run_from.new.disk) (D.moment first) (D.moment c.run_from.new.disk) _ _ _ _ _ stands
-    (returns-clause-opening g c kept told
-    (stands.each (D.content first).reading ((g.met.D.Disk.images_now first (D.content first).reading told.disk_tells).1 (reading_image (D.content first)))))
+returns-clause-any_moment g c = survives_all_along g.D.Disk g.L.Link g.C.Clock (run_config c.args.config.now.node) c.args.disk.now c.run_from.new.disk c.args.link.now c.run_from.new.link c.args.clock.now c.run_from.new.clock _
+    (λ files. g.met.D.Disk.images_now c.args.disk.now files) (returns-clause-opening g c)
 
 pub returns-clause-prefix : goal.returns-clause-prefix
-returns-clause-prefix g c = λ kept told stands.
-    let D = g.D.Disk in
-    let first = c.args.disk.now in
-    let last = c.run_from.new.disk in
-    let opened_tells : IsTrue (D.kind c.open_folder.new.disk).tells = subst (λ (k : Kind). IsTrue k.tells) (sym c.open_folder.ensures.disk.same) told.disk_tells in
-    let last_tells : IsTrue (D.kind last).tells = subst (λ (k : Kind). IsTrue k.tells) (sym c.run_from.ensures.disk.same) opened_tells in
-    opening_front durable_in (D.images first) (D.images last) (D.moment first) (D.moment last) _ _ _ _ _ (D.content last).reading
-    ((g.met.D.Disk.images_now last (D.content last).reading last_tells).1 (reading_image (D.content last)))
-    (returns-clause-opening g c kept told stands)
+returns-clause-prefix g c = sends_prefix g.D.Disk g.L.Link g.C.Clock (run_config c.args.config.now.node) c.args.disk.now c.run_from.new.disk c.args.link.now c.run_from.new.link c.args.clock.now c.run_from.new.clock _
+    (c.run_from.ensures.disk.same ∙ c.open_folder.ensures.disk.same) (λ files. g.met.D.Disk.images_now c.run_from.new.disk files) (returns-clause-opening g c)
 
 pub returns-clause-served : goal.returns-clause-served
 returns-clause-served g c = on_ok_weaker c.run_from.result (λ served kept log told stands read.
@@ -127,34 +111,41 @@ returns-clause-served g c = on_ok_weaker c.run_from.result (λ served kept log t
     (length (frames n.network.max_frame_size (g.L.Link.left c.args.link.now)))
     (added (g.L.Link.sent c.args.link.now) (g.L.Link.sent c.run_from.new.link)) (kv_of (meta_shown c.in-Ok.engine.meta).value (state_map c.in-Ok.engine.state) c.in-Ok.engine.running) (log_shown c.in-Ok.engine.log).value
     (plan_over (kv_of (meta_shown c.in-Ok.engine.meta).value (state_map c.in-Ok.engine.state) c.in-Ok.engine.running) n.network.max_frame_size (g.L.Link.left c.args.link.now) readings))
-    c.node-2.ensures (served here))) c.run_from.ensures.served
+    c.node-2.ensures (served here (tt, tt, tt)))) c.run_from.ensures.served
 
 pub returns-clause-refused : goal.returns-clause-refused
-returns-clause-refused g c = if_err_weaker c.run_from.result _ _
-    (λ e h.
-    let D = g.D.Disk in
-    let link_rose = Rose (g.L.Link.faults c.args.link.now) (g.L.Link.faults c.run_from.new.link) in
-    serving_ended (Rose (D.faults c.open_folder.new.disk) (D.faults c.run_from.new.disk)) _ link_rose _ _ (refusal_in (D.content c.args.disk.now).reading) e
-    (λ r. rose_then _ _ _ c.open_folder.ensures.disk.counts r) (λ told. c.in-Ok.ensures.accepted told)
-    (subst (λ (k : Kind). IsServeRefusal (Rose (D.faults c.open_folder.new.disk) (D.faults c.run_from.new.disk)) link_rose k.limit e) c.open_folder.ensures.disk.same h))
-    c.run_from.ensures.refused
-
-pub returns-clause-turned_away : goal.returns-clause-turned_away
-returns-clause-turned_away g c = λ e told is. absurd (refused_not_read (refusal_in (g.D.Disk.content c.args.disk.now).reading) e (c.in-Ok.ensures.accepted told) is)
-
-pub returns-clause-full : goal.returns-clause-full
-returns-clause-full g c = λ told. if_err_weaker c.run_from.result _ _
-    (λ e h.
+returns-clause-refused g c = if_err_two c.run_from.result _ _ _
+    (λ e h full.
     let D = g.D.Disk in
     let L = g.L.Link in
     let engine = c.in-Ok.engine in
     let weight = held_weight engine.log engine.meta engine.state in
     let taken = L.taken c.run_from.new.link - L.taken c.args.link.now in
-    full_serving (D.kind c.args.disk.now).limit weight (files_size (D.content c.args.disk.now).reading) taken e (c.in-Ok.ensures.weight told)
-    (subst (λ (k : Kind). IsHeavy k.limit (run_weight weight taken) e) c.open_folder.ensures.disk.same h))
-    c.run_from.ensures.heavy
+    let link_rose = Rose (L.faults c.args.link.now) (L.faults c.run_from.new.link) in
+    let rose = Rose (D.faults c.open_folder.new.disk) (D.faults c.run_from.new.disk) in
+    serving_ended rose _ link_rose (IsTrue (D.kind c.args.disk.now).tells) (refusal_in (D.content c.args.disk.now).reading) (D.kind c.args.disk.now).limit weight (files_size (D.content c.args.disk.now).reading) taken e
+    (λ r. rose_then _ _ _ c.open_folder.ensures.disk.counts r) (λ told. c.in-Ok.ensures.accepted told) (λ told. c.in-Ok.ensures.weight told)
+    (subst (λ (k : Kind). IsServeRefusal rose link_rose k.limit e) c.open_folder.ensures.disk.same h)
+    (subst (λ (k : Kind). IsFullBy k.limit (run_weight weight taken) e) c.open_folder.ensures.disk.same full))
+    c.run_from.ensures.refused c.run_from.ensures.full
 
-pub returns-clause-snapshot : goal.returns-clause-snapshot
-returns-clause-snapshot g c =
-    spares_twice g.D.Disk.kind g.D.Disk.content g.D.Disk.moment g.D.Disk.images g.D.Disk.faults snapshot_family c.args.disk.now c.open_folder.new.disk c.run_from.new.disk
-    c.open_folder.ensures.disk c.run_from.ensures.disk c.in-Ok.ensures.snapshot c.run_from.ensures.snapshot
+pub returns-clause-turned_away : goal.returns-clause-turned_away
+returns-clause-turned_away g c = λ e told is. absurd (refused_not_read (refusal_in (g.D.Disk.content c.args.disk.now).reading) e (c.in-Ok.ensures.accepted told) is)
+
+pub returns-clause-complete : goal.returns-clause-complete
+returns-clause-complete g c = λ told link_tells unrefused disk link small.
+    let D = g.D.Disk in
+    let L = g.L.Link in
+    let first = c.args.disk.now in
+    completed (Rose (D.faults first) (D.faults c.run_from.new.disk)) (Rose (L.faults c.args.link.now) (L.faults c.run_from.new.link)) (IsTrue (D.kind first).tells) (refusal_in (D.content first).reading)
+    (D.kind first).limit (files_size (D.content first).reading) (L.taken c.run_from.new.link - L.taken c.args.link.now) (length (L.left c.args.link.now)) c.run_from.result told unrefused disk link
+    (omega (arith, c.run_from.ensures.counted link_tells)) small (returns-clause-refused g c)
+
+pub returns-clause-goes_on : goal.returns-clause-goes_on
+returns-clause-goes_on g c = record {
+  disk_goes_on = disk_twice g.D.Disk.kind g.D.Disk.moment g.D.Disk.images g.D.Disk.faults c.args.disk.now c.open_folder.new.disk c.run_from.new.disk c.open_folder.ensures.disk c.run_from.ensures.disk;
+  link_goes_on = c.run_from.ensures.link;
+  clock_goes_on = c.run_from.ensures.clock;
+  snapshot = spares_twice g.D.Disk.kind g.D.Disk.content g.D.Disk.moment g.D.Disk.images g.D.Disk.faults snapshot_family c.args.disk.now c.open_folder.new.disk c.run_from.new.disk
+      c.open_folder.ensures.disk c.run_from.ensures.disk c.in-Ok.ensures.snapshot c.run_from.ensures.snapshot;
+}

@@ -12,14 +12,13 @@ ghost use Rattle.den_model.specs.Kv.{Durable};
 ghost use Rattle.den_model.specs.Sizes.{entries_size, files_size, store_rise};
 ghost use Rattle.den_codec.specs.declared.error.Error.{Error};
 ghost use Rattle.den_codec.specs.declared.error.Error.TheVariants.{OutOfMemory};
-ghost use Rattle.den_codec.specs.Full.{IsHeavy};
 ghost use Rattle.den_codec.specs.Standard.{entered, running_of};
 ghost use Rattle.den_store.specs.FileLog.{log_shown, file_place};
 ghost use Rattle.den_store.specs.FileMeta.{meta_shown};
 ghost use Rattle.den_state.specs.FileState.{state_map, state_shown};
 ghost use Rattle.den_state.specs.Machine.{AtRest};
 ghost use Rattle.den_core.specs.Parts.{AllRest};
-ghost use Rattle.den_server.specs.Causes.{IsOpeningRefusal, IsUnreadFolder};
+ghost use Rattle.den_server.specs.Causes.{IsRunRefusal, IsUnreadFolder};
 ghost use Rattle.den_server.specs.Opening.{refusal_in, AllReady, IsRead, IsUnwritten, Settles, SurvivesOpening, held_weight, opened_weight};
 
 use crate::nodes::copy_nodes;
@@ -126,11 +125,10 @@ pub fn open_folder<D: Disk>(
     ensures rests { IfOk result (λ engine. IsTrue (D.kind disk.old).tells → ⟦<Engine<FileLogStore, FileMetaStore, FileStateMachine> as Stepper<D>>⟧.rests engine (D.content disk.new)) }
     ensures snapshot { IsTrue (D.kind disk.old).tells → SparesFamily snapshot_family D.content D.moment D.images disk.old disk.new }
     ensures accepted { IfOk result (λ engine. IsTrue (D.kind disk.old).tells → refusal_in (D.content disk.old).reading ≡ None) }
-    ensures refused { IfErr result (IsOpeningRefusal (Rose (D.faults disk.old) (D.faults disk.new)) (D.kind disk.old).limit (IsTrue (D.kind disk.old).tells)
-        (refusal_in (D.content disk.old).reading)) }
+    ensures refused { IfErr result (IsRunRefusal (Rose (D.faults disk.old) (D.faults disk.new)) ⊥ (IsTrue (D.kind disk.old).tells) (refusal_in (D.content disk.old).reading)
+        (D.kind disk.old).limit (files_size (D.content disk.old).reading) 0) }
     ensures untouched { (e : Error) → IsTrue (D.kind disk.old).tells → refusal_in (D.content disk.old).reading ≡ Some e
         → IsUnwritten (D.content disk.old) (D.content disk.new) (NoNewImages (D.images disk.old) (D.images disk.new) (D.moment disk.old) (D.moment disk.new)) }
-    ensures heavy { IsTrue (D.kind disk.old).tells → IfErr result (IsHeavy (D.kind disk.old).limit (opened_weight (files_size (D.content disk.old).reading))) }
 {
     let prepared = match prepare(alloc, config) {
         Ok(prepared) => prepared,

@@ -1,4 +1,4 @@
-use Rattle.std.proofs.Common.{IsTrue, ◌≡◌, ◌≤◌, ◌+◌, ◌*◌, ⊎_elim, ℕ, Ok, refl, sym, subst, ap, ◌∙◌, arith}
+use Rattle.std.proofs.Common.{IsTrue, ◌≡◌, ◌≤◌, ◌+◌, ◌*◌, ⊎_elim, Ok, sym, subst, ap, ◌∙◌, arith}
 use Rattle.den_disk.specs.declared.place.Family.TheVariants as family
 use Rattle.den_disk.specs.Place.{place_number}
 use Rattle.den_disk.specs.Files.{Files, Kind}
@@ -6,12 +6,12 @@ use Rattle.den_model.specs.Image.{map_in, slot_of}
 use Rattle.den_model.specs.Sizes.{family_size, files_size}
 use Rattle.den_store.specs.FileLog.{log_shown}
 use Rattle.den_store.specs.FileMeta.{meta_shown}
-use Rattle.den_server.specs.declared.opening.Stores.{Stores}
+use Rattle.den_server.specs.declared.folder.Stores.{Stores}
 use Rattle.den_server.specs.Opening.{IsRead, held_weight}
 use Rattle.den_server.proofs.Ended.{rose_then}
 use Rattle.den_server.proofs.Refused.{storage_unread, state_unread, unread_refused}
 use Rattle.den_server.proofs.Settled.{same_reading, settled_or_same, never_settles, settles_now, settles_on}
-use Rattle.den_server.proofs.opening.open_stores.Goals as goal
+use Rattle.den_server.proofs.folder.open_stores.Goals as goal
 use Rattle.den_state.specs.FileState.{state_map}
 
 -- ---- why the files are refused

@@ -9,17 +9,17 @@ use Rattle.den_core.specs.Opening.{opening_refusal, IsOpeningFailure}
 use Rattle.den_store.specs.FileLog.{log_shown, file_place}
 use Rattle.den_store.specs.FileMeta.{meta_shown}
 use Rattle.den_disk.specs.Families.{NoNewImages}
-use Rattle.den_codec.specs.Full.{IsHeavy}
+use Rattle.den_core.specs.Full.{IsFullBy}
 use Rattle.den_model.specs.Log.{above}
 use Rattle.den_model.specs.Sizes.{entries_size, files_size, store_rise}
 use Rattle.den_server.specs.Opening.{refusal_in, held_weight, opened_weight, IsUnwritten}
 use Rattle.den_server.proofs.Ended.{rose_then, some_same, kv_is}
-use Rattle.den_server.proofs.Refused.{read_refusal, read_durable, folder_refused, folder_light, failure_refused, some_refused, heavier, if_err_weaker, if_ok_weaker, if_ok_two, if_ok_on, above_size}
+use Rattle.den_server.proofs.Refused.{read_refusal, read_durable, folder_refused, failure_refused, some_refused, if_err_two, if_ok_weaker, if_ok_two, if_ok_on, above_size}
 use Rattle.den_server.proofs.Settled.{spares_read, no_call, never_settles, settled_survives}
 use Rattle.den_server.proofs.Surviving.{opening_then}
 use Rattle.den_disk.specs.declared.place.Family.TheVariants.{Snapshot as snapshot_family}
 use Rattle.den_core.proofs.Spared.{spares_still, spares_twice}
-use Rattle.den_server.proofs.opening.open_folder.Goals as goal
+use Rattle.den_server.proofs.folder.open_folder.Goals as goal
 use Rattle.den_state.specs.FileState.{state_map}
 
 -- ---- what a crash leaves
@@ -53,7 +53,7 @@ returns-clause-opening g c = λ kept told stands.
     (settled_survives durable_in (D.images disk) (D.images mid) (D.moment disk) (D.moment mid) _ _ (D.content disk).reading start stands (c.open_stores.ensures.images told)
     (c.in-Ok-open_stores.ensures.settles told))
     (ap (λ (r : Running). record { durable = kept; running = r }) c.in-Ok.ensures.running)
-    (c.recover.ensures.survives kept told1 (sym joint ∙ stands))
+    (c.recover.ensures.survives kept told1 (tt, tt, tt) (sym joint ∙ stands))
 
 -- ---- what the engine holds
 
@@ -82,17 +82,6 @@ returns-clause-weight g c = if_ok_weaker c.recover.result _ _
     le_trans got most)
     c.recover.ensures.weight
 
-pub returns-clause-heavy : goal.returns-clause-heavy
-returns-clause-heavy g c = λ told. if_err_weaker c.recover.result _ _
-    (λ e heavy.
-    let stores = c.in-Ok-open_stores.stores in
-    let more = entries_size (above (state_map stores.state).mark.index (log_shown stores.log).value.entries) in
-    heavier (g.D.Disk.kind c.args.disk.now).limit (held_weight stores.log stores.meta stores.state + store_rise more) _ e
-    (lighter (held_weight stores.log stores.meta stores.state) (entries_size (log_shown stores.log).value.entries) more (files_size (g.D.Disk.content c.args.disk.now).reading)
-    (c.in-Ok-open_stores.ensures.weight told) (c.in-Ok-open_stores.ensures.entries told) (above_size (state_map stores.state).mark.index (log_shown stores.log).value.entries))
-    (subst (λ (k : Kind). IsHeavy k.limit (held_weight stores.log stores.meta stores.state + store_rise more) e) c.open_stores.ensures.disk.same heavy))
-    c.recover.ensures.heavy
-
 -- ---- why files are refused
 
 pub returns-clause-accepted : goal.returns-clause-accepted
@@ -104,28 +93,29 @@ pub returns-in-Err-open_stores-clause-refused : goal.returns-in-Err-open_stores-
 returns-in-Err-open_stores-clause-refused g c =
     let D = g.D.Disk in
     let disk = c.args.disk.now in
-    folder_refused (Rose (D.faults disk) (D.faults c.open_stores.new.disk)) (IsTrue (D.kind disk).tells) (D.kind disk).limit (refusal_in (D.content disk).reading) c.in-Err-open_stores.error
-    c.in-Err-open_stores.ensures.refused
-
-pub returns-in-Err-open_stores-clause-heavy : goal.returns-in-Err-open_stores-clause-heavy
-returns-in-Err-open_stores-clause-heavy g c = λ told.
-    let D = g.D.Disk in
-    let disk = c.args.disk.now in
-    folder_light (Rose (D.faults disk) (D.faults c.open_stores.new.disk)) (IsTrue (D.kind disk).tells) (refusal_in (D.content disk).reading) _ _ c.in-Err-open_stores.error
-    c.in-Err-open_stores.ensures.refused
+    folder_refused (Rose (D.faults disk) (D.faults c.open_stores.new.disk)) (IsTrue (D.kind disk).tells) (refusal_in (D.content disk).reading) (D.kind disk).limit (files_size (D.content disk).reading)
+    c.in-Err-open_stores.error c.in-Err-open_stores.ensures.refused
 
 pub returns-clause-refused : goal.returns-clause-refused
-returns-clause-refused g c = if_err_weaker c.recover.result _ _
-    (λ e failure.
+returns-clause-refused g c = if_err_two c.recover.result _ _ _
+    (λ e failure full.
     let D = g.D.Disk in
+    let disk = c.args.disk.now in
     let stores = c.in-Ok-open_stores.stores in
     let rose = Rose (D.faults c.open_stores.new.disk) (D.faults c.recover.new.disk) in
     let refusal = opening_refusal (file_place stores.log) (log_shown stores.log).value (meta_shown stores.meta).value (state_map stores.state) in
-    failure_refused rose _ _ _ (file_place stores.log) (refusal_in (D.content c.args.disk.now).reading) (log_shown stores.log).value (meta_shown stores.meta).value (state_map stores.state) e
+    let entries = (log_shown stores.log).value.entries in
+    let more = entries_size (above (state_map stores.state).mark.index entries) in
+    let weight = held_weight stores.log stores.meta stores.state + store_rise more in
+    failure_refused rose _ (IsTrue (D.kind disk).tells) (refusal_in (D.content disk).reading) (D.kind disk).limit weight (files_size (D.content disk).reading) (file_place stores.log)
+    (log_shown stores.log).value (meta_shown stores.meta).value (state_map stores.state) e
     (λ r. rose_then _ _ _ c.open_stores.ensures.disk.counts r)
-    (λ told. read_refusal (D.content c.args.disk.now).reading _ _ _ _ (c.in-Ok-open_stores.ensures.read told) (c.in-Ok-open_stores.ensures.place told))
-    (subst (λ (k : Kind). IsOpeningFailure rose k.limit refusal e) c.open_stores.ensures.disk.same failure))
-    c.recover.ensures.refused
+    (λ told. read_refusal (D.content disk).reading _ _ _ _ (c.in-Ok-open_stores.ensures.read told) (c.in-Ok-open_stores.ensures.place told))
+    (λ told. lighter (held_weight stores.log stores.meta stores.state) (entries_size entries) more (files_size (D.content disk).reading)
+    (c.in-Ok-open_stores.ensures.weight told) (c.in-Ok-open_stores.ensures.entries told) (above_size (state_map stores.state).mark.index entries))
+    (subst (λ (k : Kind). IsOpeningFailure rose k.limit refusal e) c.open_stores.ensures.disk.same failure)
+    (subst (λ (k : Kind). IsFullBy k.limit weight e) c.open_stores.ensures.disk.same full))
+    c.recover.ensures.refused c.recover.ensures.full
 
 pub returns-clause-untouched : goal.returns-clause-untouched
 returns-clause-untouched g c = λ e told is.

@@ -1,0 +1,115 @@
+-- What a run promises, of the disk, the link and the clock that it is lent, as they are at entry and at its end.
+use Rattle.std.specs.Prelude.{◌≡◌, ◌⊎◌, ◌+◌, ◌-◌, ℕ, List, Some, None, Ok, IsTrue, length}
+use Rattle.den_disk.specs.declared.clock.Clock.{Ghosts as Clocks}
+use Rattle.den_disk.specs.declared.disk.Disk.{Ghosts as Disks}
+use Rattle.den_disk.specs.declared.link.Link.{Ghosts as Links}
+use Rattle.den_disk.specs.declared.place.Family.TheVariants.{Snapshot}
+use Rattle.den_disk.specs.Families.{NoNewImages}
+use Rattle.den_disk.specs.Goes.{Rose, IsPrefix, DiskGoesOn, LinkGoesOn, ClockGoesOn, added}
+use Rattle.den_codec.specs.declared.config.RaftNodeConfig.{RaftNodeConfig}
+use Rattle.den_codec.specs.declared.error.Error.{Error}
+use Rattle.den_codec.specs.Standard.{running_of}
+use Rattle.den_model.specs.declared.running.Running.{Running}
+use Rattle.den_model.specs.Crash.{IsServed, Stands, Survives, bytes_of}
+use Rattle.den_model.specs.Crash.{Tells as AllTell}
+use Rattle.den_model.specs.Frames.{frames}
+use Rattle.den_model.specs.Image.{durable_in, log_in, ok}
+use Rattle.den_model.specs.Kv.{Durable, Kv}
+use Rattle.den_model.specs.Log.{Log}
+use Rattle.den_model.specs.Plan.{output, plan_over}
+use Rattle.den_model.specs.Sizes.{files_size}
+use Rattle.den_model.specs.Step.{Step}
+use Rattle.den_journal.specs.Writes.{Faulted, Tells}
+use Rattle.den_core.specs.Spared.{SparesFamily}
+use Rattle.den_server.specs.Causes.{IsMuch, IsRunRefusal}
+use Rattle.den_server.specs.Opening.{IsUnwritten, SurvivesOpening, refusal_in}
+
+-- What a configuration makes of a run: the run's part of what it begins with, and the longest body of a frame.
+pub record RunConfig : Type 0 where
+  pub running : Running
+  pub frame_limit : ℕ
+
+abbrev pub run_config : RaftNodeConfig → RunConfig
+run_config c = record { running = running_of c; frame_limit = c.network.max_frame_size }
+
+-- what a run begins with, over files that stand for a durable part
+abbrev pub start : RunConfig → Durable → Kv
+start config kept = record { durable = kept; running = config.running }
+
+module _ {D L C : Type 0} (disk : Disks D) (link : Links L) (clock : Clocks C) where
+  -- ---- what is sent, and what the files stand for
+
+  module _ (config : RunConfig) (old new : D) (from to : L) (before after : C) where
+    -- disk and link tell their bytes, and the clock still tells
+    abbrev pub Told : Type 0
+    Told = AllTell (disk.kind old).tells (link.tells from) (clock.tells after)
+
+    -- what is read at entry stands for this
+    abbrev pub Reads : Durable → Type 0
+    Reads kept = durable_in (disk.content old).reading ≡ Some kept
+
+    abbrev pub readings : List ℕ
+    readings = added (clock.readings before) (clock.readings after)
+
+    abbrev pub sent : List (ℕ × ℕ)
+    sent = added (link.sent from) (link.sent to)
+
+    -- the steps of the plan, over the input that was left at entry
+    abbrev pub planned : Durable → List Step
+    planned kept = plan_over (start config kept) config.frame_limit (link.left from) readings
+
+    -- The input was read to its end, one reading was taken at opening and one for each frame, exactly the plan's output
+    -- was sent, and each image of the disk stands for the plan's end, with the plan's entries in the log.
+    abbrev pub Served : Type 0
+    Served = (kept : Durable) (log : Log) → Told → Reads kept → log_in (disk.content old).reading ≡ Ok log
+        → IsServed durable_in (λ files. ok (log_in files)) (disk.images new) (disk.moment new) (link.left to) (length readings) (length (frames config.frame_limit (link.left from)))
+        sent (start config kept) log (planned kept)
+
+    -- what was sent is a front of the plan's output
+    abbrev pub SendsPrefix : Type 0
+    SendsPrefix = (kept : Durable) → Told → Reads kept → IsPrefix (bytes_of sent) (output (start config kept) (planned kept))
+
+    -- Where each image at entry stands for one durable part: after a crash at any moment, inside a call too, the disk
+    -- stands for the state after a prefix of the plan that holds each step of which a byte was sent.
+    abbrev pub SurvivesCrash : Type 0
+    SurvivesCrash = (kept : Durable) → Told → Stands durable_in (disk.images old) (disk.moment old) kept
+        → Survives durable_in (disk.images new) (disk.moment old) (disk.moment new) sent (start config kept) (planned kept)
+
+    -- Where writes are pending at entry: until the first sync that succeeds a crash leaves what it could leave at entry,
+    -- and nothing is sent; from then on the same holds of what was read at entry. A run that ended well had one succeed.
+    abbrev pub SurvivesPending : (ended_well : Type 0) → Type 0
+    SurvivesPending ended_well = (kept : Durable) → Told → Reads kept
+        → SurvivesOpening durable_in (disk.images old) (disk.images new) (disk.moment old) (disk.moment new) ended_well (disk.content new ≡ disk.content old)
+        sent (start config kept) (planned kept)
+
+  -- ---- what goes on
+
+  -- Disk, link and clock go on as they do over any call; the files of the snapshot stay as they are, and a crash leaves
+  -- them as it could at entry.
+  pub record GoesOn (old new : D) (from to : L) (before after : C) : Type 0 where
+    pub disk_goes_on : DiskGoesOn disk.kind disk.moment disk.images disk.faults old new
+    pub link_goes_on : LinkGoesOn link.tells link.sent link.budget link.taken link.faults from to
+    pub clock_goes_on : ClockGoesOn clock.tells clock.readings before after
+    pub snapshot : Tells disk old → SparesFamily Snapshot disk.content disk.moment disk.images old new
+
+-- ---- why it ends early
+
+-- Files that are to be refused are: nothing is written, read, sent or timed.
+abbrev pub TurnsAway : {D L C : Type 0} (disk : Disks D) (refused : Error → Type 0) (old new : D) (from to : L) (before after : C) → Type 0
+TurnsAway disk refused old new from to before after = (e : Error) → Tells disk old → refusal_in (disk.content old).reading ≡ Some e
+    → refused e × IsUnwritten (disk.content old) (disk.content new) (NoNewImages (disk.images old) (disk.images new) (disk.moment old) (disk.moment new))
+    × (to ≡ from) × (after ≡ before)
+
+module _ {D L : Type 0} (disk : Disks D) (link : Links L) (old new : D) (from to : L) where
+  -- Files that are not refused and an input, neither of them much, are served, but for faults and want of memory.
+  abbrev pub Completes : (served memory : Type 0) → Type 0
+  Completes served memory = Tells disk old → IsTrue (link.tells from) → refusal_in (disk.content old).reading ≡ None
+      → (Faulted disk old new → ⊥) → (Rose (link.faults from) (link.faults to) → ⊥)
+      → (IsMuch (disk.kind old).limit (files_size (disk.content old).reading + length (link.left from)) → ⊥) → served ⊎ memory
+
+  -- An answer other than Ok has its cause: files are refused for what they are refused for, and for nothing else; the
+  -- disk is told to be full only with a room that is above its limit, and only where the bytes of its regions at entry
+  -- and those taken from the link are much.
+  abbrev pub EndsEarly : Error → Type 0
+  EndsEarly e = IsRunRefusal (Faulted disk old new) (Rose (link.faults from) (link.faults to)) (Tells disk old) (refusal_in (disk.content old).reading)
+      (disk.kind old).limit (files_size (disk.content old).reading) (link.taken to - link.taken from) e
