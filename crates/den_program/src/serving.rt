@@ -90,7 +90,7 @@ pub fn serve_main<D: Disk, L: Link, C: Clock, S: Source, E: Sink>(
     ensures untouched { result ≡ 2 → (disk.new ≡ disk.old) × (link.new ≡ link.old) × (clock.new ≡ clock.old) }
     ensures conf { _conf.new ≡ _conf.old }
 
-    // Each other status has its cause; that of 7 is a room, in whole chunks, that is above the disk's limit.
+    // Each other status has its cause, but for want of memory; that of 7 stands where the disk tells its bytes.
     ensures status { (result ≡ 2 → ⊥) → EndsWith D.Disk L.Link disk.old disk.new link.old link.new result }
 
     // Files that are to be refused are: nothing is written, read, sent or timed.
