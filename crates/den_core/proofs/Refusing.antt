@@ -1,5 +1,5 @@
 -- What a refused call of an engine leaves.
-use Rattle.std.proofs.Common.{◌≡◌, ◌⊎◌, ◌↔◌, inl, inr, ℕ, Bool, true, false, ◌||◌, IsTrue, Result, Ok, Err, IfErr, refl, sym, subst}
+use Rattle.std.proofs.Common.{◌≡◌, ◌⊎◌, ◌↔◌, inl, inr, ℕ, Bool, true, false, ◌||◌, IsTrue, Result, Ok, Err, OnOk, IfErr, refl, sym, ◌∙◌, subst}
 use Rattle.std.specs.Result.{IsErrAnd}
 use Rattle.den_codec.specs.declared.error.Error.{Error}
 use Rattle.den_codec.specs.declared.error.Error.TheVariants.{OutOfMemory, StorageIoError, DiskFull, LinkFault, DataCorruption, FeatureNotEnabled, ProposeFailed, UnorderedChunk, Config, StateMachineError}
@@ -61,6 +61,29 @@ untouched_only never (inr lost) = absurd (never lost)
 pub at_exit : {T : Type 0} (r : Result T Error) (e : Error) (P : Error → Type 0) → IsErrAnd r (λ y. y ≡ e) → P e → IfErr r P
 at_exit (Ok x) e P is h = record {}
 at_exit (Err y) e P is h = subst P (sym is) h
+
+-- nothing is promised at Ok there
+pub not_done : {T : Type 0} (r : Result T Error) (e : Error) (done : Type 0) → IsErrAnd r (λ y. y ≡ e) → OnOk r done
+not_done (Ok x) e done is = absurd is
+not_done (Err y) e done is = tt
+
+-- of a call behind another one, of the same kind of disk
+pub refusal_behind : (rose more : Type 0) (most same : ℕ) (e : Error) → (rose → more) → same ≡ most → IsRefusal rose same e → IsRefusal more most e
+refusal_behind rose more most same OutOfMemory so is cause = tt
+refusal_behind rose more most same StorageIoError so is cause = so cause
+refusal_behind rose more most same (DiskFull needed limit) so is cause = (cause.0, cause.1 ∙ is)
+refusal_behind rose more most same LinkFault so is cause = cause
+refusal_behind rose more most same (DataCorruption place offset) so is cause = cause
+refusal_behind rose more most same FeatureNotEnabled so is cause = cause
+refusal_behind rose more most same ProposeFailed so is cause = cause
+refusal_behind rose more most same (UnorderedChunk index) so is cause = cause
+refusal_behind rose more most same (Config place) so is cause = cause
+refusal_behind rose more most same StateMachineError so is cause = cause
+
+-- three facts of a refusal as one
+pub if_err_three : {T : Type 0} (r : Result T Error) (P Q R S : Error → Type 0) → ((e : Error) → P e → Q e → R e → S e) → IfErr r P → IfErr r Q → IfErr r R → IfErr r S
+if_err_three (Ok x) P Q R S f p q s = tt
+if_err_three (Err e) P Q R S f p q s = f e p q s
 
 pub if_err_weaker : {T : Type 0} (r : Result T Error) (P Q : Error → Type 0) → ((e : Error) → P e → Q e) → IfErr r P → IfErr r Q
 if_err_weaker (Ok x) P Q f h = record {}

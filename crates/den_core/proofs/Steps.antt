@@ -56,6 +56,21 @@ pub raised_is : (h h2 : Option HardState) (s s2 : MapState) (running running2 : 
 raised_is h h2 s s2 running running2 saved same_map same_running =
     ap (λ x. kv_of x s2 running2) saved ∙ ap (λ x. kv_of (Some (raised_of running h)) x running2) same_map ∙ ap (λ x. kv_of (Some (raised_of running h)) s x) same_running
 
+-- and its first entry
+pub opening_state : (kv between : Kv) (d : Durable) (running : Running) (moment : ℕ) → kv.running.setting.lease ≡ false → between ≡ after kv (Raise ∷ [])
+    → d ≡ applied between.durable (next_entry between moment command.Noop) → running ≡ between.running → record { durable = d; running = running } ≡ after kv (opening kv moment)
+opening_state kv between d running moment no_lease is made same =
+    let one : record { durable = d; running = running } ≡ after between (Noop moment ∷ []) = ap (λ x. record { durable = x; running = running }) made ∙ ap (λ x. record { durable = applied between.durable (next_entry between moment command.Noop); running = x }) same in
+    one ∙ ap (λ k. after k (Noop moment ∷ [])) is ∙ ap (after kv) (sym (opening_is kv moment no_lease))
+
+-- what a frame's step leaves
+pub turn_state : (kv new : Kv) (frame : Frame) (moment : ℕ) → kv.running.setting.lease ≡ false → (answer kv moment frame).after ≡ new → new ≡ after kv (turn kv frame moment)
+turn_state kv new frame moment no_lease is = sym is ∙ ap (after kv) (sym (turn_is kv frame moment no_lease))
+
+-- the durable part that was made or was not, by another name
+pub moves_as : (holds : Files → Option Durable) (images : ℕ → Files → Type 0) (from to : ℕ) (d made same : Durable) → made ≡ same → OldOrNew holds images from to d made → OldOrNew holds images from to d same
+moves_as holds images from to d made same is = subst (λ x. OldOrNew holds images from to d x) is
+
 -- ---- the log
 
 -- the term's first entry joined it

@@ -4,6 +4,7 @@ pub mod Early
 pub mod Full
 pub mod Input
 pub mod Joined
+pub mod Making
 pub mod Opening
 pub mod Parts
 pub mod Refusals

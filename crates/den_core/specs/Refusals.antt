@@ -1,15 +1,11 @@
 -- Why reading, sending and serving end early, and what a refused step leaves.
 use Rattle.std.specs.Prelude.{◌≡◌, ◌⊎◌, ◌≤◌, ℕ, List, length}
-use Rattle.den_disk.specs.declared.disk.Disk.{Ghosts}
-use Rattle.den_disk.specs.Files.{Content}
 use Rattle.den_model.specs.Entries.{LogEntry}
 use Rattle.den_model.specs.Grown.{appended}
-use Rattle.den_model.specs.Kv.{Kv}
 use Rattle.den_model.specs.Log.{Log}
 use Rattle.den_codec.specs.declared.error.Error.{Error}
 use Rattle.den_codec.specs.declared.error.Error.TheVariants.{OutOfMemory, StorageIoError, DiskFull, LinkFault, DataCorruption, FeatureNotEnabled, ProposeFailed, UnorderedChunk, Config, StateMachineError}
 use Rattle.den_journal.specs.Causes.{IsRefusal}
-use Rattle.den_journal.specs.Writes.{Tells}
 
 -- of a call that is lent a link: want of memory, or a fault of the link where its count rose
 abbrev pub IsLinkRefusal : Type 0 → Error → Type 0
@@ -36,16 +32,6 @@ IsServeRefusal disk_rose link_rose most ProposeFailed = ⊥
 IsServeRefusal disk_rose link_rose most (UnorderedChunk index) = ⊥
 IsServeRefusal disk_rose link_rose most (Config place) = ⊥
 IsServeRefusal disk_rose link_rose most StateMachineError = ⊥
-
--- A call left a stepper and the disk as they were: where the stepper could go on it still can.
-pub record IsUntouched {S D : Type 0} (disk : Ghosts D) (kv : S → Kv) (log : S → Log) (weight : S → ℕ) (ready : S → Type 0) (rests : S → Content → Type 0)
-    (old new : S) (before now : D) : Type 0 where
-  pub same_kv : kv new ≡ kv old
-  pub same_log : log new ≡ log old
-  pub same_weight : weight new ≡ weight old
-  pub same_disk : now ≡ before
-  pub stays_ready : ready old → ready new
-  pub stays_at_rest : Tells disk before → rests old (disk.content before) → rests new (disk.content now)
 
 -- these entries joined the log, and they are some
 pub record HasJoined (old : Log) (entries : List LogEntry) (new : Log) : Type 0 where

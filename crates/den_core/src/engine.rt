@@ -1,20 +1,11 @@
 //! The engine: the next entry into the log and onto the map, and the answer.
 ghost use Rattle.std.specs.Prelude.{◌≡◌, ◌<◌, ◌≤◌, ◌^◌, ◌-◌, ◌+◌, IsTrue, [], ◌∷◌, Option, Some, OnOk, IfOk, IfErr, true, false};
-ghost use Rattle.den_disk.specs.declared.place.Family.TheVariants.{Snapshot as snapshot_family};
-ghost use Rattle.den_disk.specs.Families.{OldOrNew};
 ghost use Rattle.den_disk.specs.Files.{Content};
-ghost use Rattle.den_disk.specs.Goes.{Rose, DiskGoesOn};
 ghost use Rattle.den_model.specs.Apply.{applied, succeeds};
 ghost use Rattle.den_model.specs.Image.{joined, term_of};
-ghost use Rattle.den_model.specs.Grown.{appended};
-ghost use Rattle.den_model.specs.Log.{changed};
-ghost use Rattle.den_model.specs.declared.region.LogRegion.TheVariants.{Append};
 ghost use Rattle.den_model.specs.Step.{answer, has_ttl, next_entry};
-ghost use Rattle.den_journal.specs.Causes.{IsRefusal};
-ghost use Rattle.den_core.specs.Full.{IsFullBy};
+ghost use Rattle.den_core.specs.Making.{CanGoOn, Changes};
 ghost use Rattle.den_core.specs.Parts.{durable_of, kv_of, raised_of, vote_of, HasFailed, IsCaughtUp, IsPlain, IsReady, AllRest};
-ghost use Rattle.den_core.specs.Refusals.{FailsOrStays, HasJoined, IsUntouched};
-ghost use Rattle.den_core.specs.Spared.{SparesFamily};
 ghost use Rattle.den_core.specs.Weights.{commit_rise, frame_rise, raise_rise};
 ghost use Rattle.den_state.specs.Machine.{AtRest, rest_hold};
 
@@ -59,12 +50,12 @@ impl<G, T, M> Engine<G, T, M> {
         requires state_ready { (M.shown state).ready }
         requires caught_up { IsCaughtUp (G.shown log).value (M.map state) }
         requires plain { IsPlain running }
-        ensures kv { ⟦<Engine<G, T, M> as Stepper<D>>⟧.kv result ≡ kv_of (T.shown meta).value (M.map state) running }
-        ensures log { ⟦<Engine<G, T, M> as Stepper<D>>⟧.log result ≡ (G.shown log).value }
-        ensures ready { ⟦<Engine<G, T, M> as Stepper<D>>⟧.ready result }
-        ensures weight { ⟦<Engine<G, T, M> as Stepper<D>>⟧.weight result ≡ (G.shown log).weight + (T.shown meta).weight + (M.shown state).weight }
+        ensures kv { (⟦<Engine<G, T, M> as Stepper<D>>⟧.seen result).kv ≡ kv_of (T.shown meta).value (M.map state) running }
+        ensures log { (⟦<Engine<G, T, M> as Stepper<D>>⟧.seen result).log ≡ (G.shown log).value }
+        ensures ready { (⟦<Engine<G, T, M> as Stepper<D>>⟧.seen result).ready }
+        ensures weight { (⟦<Engine<G, T, M> as Stepper<D>>⟧.seen result).weight ≡ (G.shown log).weight + (T.shown meta).weight + (M.shown state).weight }
         ensures rests { (content : Content) → AllRest ((G.shown log).rests content) ((T.shown meta).rests content) (AtRest (M.shown state) (M.map state) content)
-            → ⟦<Engine<G, T, M> as Stepper<D>>⟧.rests result content }
+            → (⟦<Engine<G, T, M> as Stepper<D>>⟧.seen result).rests content }
     {
         Engine {
             log,
@@ -104,30 +95,16 @@ fn raise<D: Disk, G: LogStore<D>, T: MetaStore<D>, M: StateMachine<D>>(
 ) -> Result<(), Error>
     requires ready { IsReady (G.shown engine.old.log).ready (T.shown engine.old.meta).ready (M.shown engine.old.state).ready
         (G.shown engine.old.log).value (M.map engine.old.state) engine.old.running }
-    requires rests { IsTrue (D.kind disk.old).tells → AllRest ((G.shown engine.old.log).rests (D.content disk.old))
-        ((T.shown engine.old.meta).rests (D.content disk.old)) (AtRest (M.shown engine.old.state) (M.map engine.old.state) (D.content disk.old)) }
+    requires rests { IsTrue (D.kind disk.old).tells → (⟦<Engine<G, T, M> as Stepper<D>>⟧.seen engine.old).rests (D.content disk.old) }
     requires room { term_of (T.shown engine.old.meta).value < 2 ^ 64 - 1 }
-    ensures disk { DiskGoesOn D.kind D.moment D.images D.faults disk.old disk.new }
-    ensures snapshot { IsTrue (D.kind disk.old).tells → SparesFamily snapshot_family D.content D.moment D.images disk.old disk.new }
-    ensures moves { IsTrue (D.kind disk.old).tells → ⟦<Engine<G, T, M> as Stepper<D>>⟧.told
-        → OldOrNew ⟦<Engine<G, T, M> as Stepper<D>>⟧.holds (D.images disk.new) (D.moment disk.old) (D.moment disk.new)
-        (durable_of (T.shown engine.old.meta).value (M.map engine.old.state))
-        (durable_of (Some (raised_of engine.old.running (T.shown engine.old.meta).value)) (M.map engine.old.state)) }
+    ensures makes { Changes D.Disk (⟦<Engine<G, T, M> as Stepper<D>>⟧.seen engine.old) (⟦<Engine<G, T, M> as Stepper<D>>⟧.seen engine.new) disk.old disk.new ⟦<Engine<G, T, M> as Stepper<D>>⟧.says
+        (durable_of (Some (raised_of engine.old.running (T.shown engine.old.meta).value)) (M.map engine.old.state)) [] raise_rise result }
     ensures raised { OnOk result ((T.shown engine.new.meta).value ≡ Some (raised_of engine.old.running (T.shown engine.old.meta).value)) }
     ensures log { (G.shown engine.new.log).value ≡ (G.shown engine.old.log).value }
     ensures map { M.map engine.new.state ≡ M.map engine.old.state }
     ensures running { engine.new.running ≡ engine.old.running }
     ensures ready { OnOk result (IsReady (G.shown engine.new.log).ready (T.shown engine.new.meta).ready (M.shown engine.new.state).ready
         (G.shown engine.new.log).value (M.map engine.new.state) engine.new.running) }
-    ensures rests { OnOk result (IsTrue (D.kind disk.old).tells → AllRest ((G.shown engine.new.log).rests (D.content disk.new))
-        ((T.shown engine.new.meta).rests (D.content disk.new)) (AtRest (M.shown engine.new.state) (M.map engine.new.state) (D.content disk.new))) }
-    ensures weight { OnOk result ((G.shown engine.new.log).weight + (T.shown engine.new.meta).weight + (M.shown engine.new.state).weight
-        ≤ (G.shown engine.old.log).weight + (T.shown engine.old.meta).weight + (M.shown engine.old.state).weight + raise_rise) }
-    ensures refused { IfErr result (λ e. IsRefusal (Rose (D.faults disk.old) (D.faults disk.new)) (D.kind disk.old).limit e) }
-    ensures full { IfErr result (IsFullBy (D.kind disk.old).limit ((G.shown engine.old.log).weight + (T.shown engine.old.meta).weight + (M.shown engine.old.state).weight + raise_rise)) }
-    ensures left { IfErr result (FailsOrStays (⟦<Engine<G, T, M> as Stepper<D>>⟧.failed engine.new)
-        (IsUntouched D.Disk ⟦<Engine<G, T, M> as Stepper<D>>⟧.kv ⟦<Engine<G, T, M> as Stepper<D>>⟧.log ⟦<Engine<G, T, M> as Stepper<D>>⟧.weight ⟦<Engine<G, T, M> as Stepper<D>>⟧.ready ⟦<Engine<G, T, M> as Stepper<D>>⟧.rests engine.old engine.new disk.old disk.new)
-        ⊥) }
 {
     let term = current_term::<D, T>(&engine.meta) + 1;
     let raised = HardState {
@@ -146,39 +123,18 @@ fn commit<D: Disk, G: LogStore<D>, T: MetaStore<D>, M: StateMachine<D>>(
 ) -> Result<bool, Error>
     requires ready { IsReady (G.shown engine.old.log).ready (T.shown engine.old.meta).ready (M.shown engine.old.state).ready
         (G.shown engine.old.log).value (M.map engine.old.state) engine.old.running }
-    requires rests { IsTrue (D.kind disk.old).tells → AllRest ((G.shown engine.old.log).rests (D.content disk.old))
-        ((T.shown engine.old.meta).rests (D.content disk.old)) (AtRest (M.shown engine.old.state) (M.map engine.old.state) (D.content disk.old)) }
+    requires rests { IsTrue (D.kind disk.old).tells → (⟦<Engine<G, T, M> as Stepper<D>>⟧.seen engine.old).rests (D.content disk.old) }
     requires room { (M.map engine.old.state).mark.index < 2 ^ 64 - 1 }
     requires time { 1 ≤ time }
     requires no_ttl { has_ttl command ≡ false }
-    ensures disk { DiskGoesOn D.kind D.moment D.images D.faults disk.old disk.new }
-    ensures snapshot { IsTrue (D.kind disk.old).tells → SparesFamily snapshot_family D.content D.moment D.images disk.old disk.new }
-    ensures moves { IsTrue (D.kind disk.old).tells → ⟦<Engine<G, T, M> as Stepper<D>>⟧.told
-        → OldOrNew ⟦<Engine<G, T, M> as Stepper<D>>⟧.holds (D.images disk.new) (D.moment disk.old) (D.moment disk.new)
-        (durable_of (T.shown engine.old.meta).value (M.map engine.old.state))
-        (applied (durable_of (T.shown engine.old.meta).value (M.map engine.old.state))
-        (next_entry (kv_of (T.shown engine.old.meta).value (M.map engine.old.state) engine.old.running) time command)) }
-    ensures state { OnOk result (durable_of (T.shown engine.new.meta).value (M.map engine.new.state)
-        ≡ applied (durable_of (T.shown engine.old.meta).value (M.map engine.old.state))
-        (next_entry (kv_of (T.shown engine.old.meta).value (M.map engine.old.state) engine.old.running) time command)) }
-    ensures logged { OnOk result ((G.shown engine.new.log).value ≡ changed (G.shown engine.old.log).value
-        (Append (next_entry (kv_of (T.shown engine.old.meta).value (M.map engine.old.state) engine.old.running) time command ∷ []))) }
-    ensures succeeded { IfOk result (λ succeeded. succeeded ≡ succeeds (durable_of (T.shown engine.old.meta).value (M.map engine.old.state)) command) }
+    ensures makes { Changes D.Disk (⟦<Engine<G, T, M> as Stepper<D>>⟧.seen engine.old) (⟦<Engine<G, T, M> as Stepper<D>>⟧.seen engine.new) disk.old disk.new ⟦<Engine<G, T, M> as Stepper<D>>⟧.says
+        (applied (⟦<Engine<G, T, M> as Stepper<D>>⟧.seen engine.old).kv.durable (next_entry (⟦<Engine<G, T, M> as Stepper<D>>⟧.seen engine.old).kv time command))
+        (next_entry (⟦<Engine<G, T, M> as Stepper<D>>⟧.seen engine.old).kv time command ∷ []) (commit_rise command) result }
+    ensures succeeded { IfOk result (λ succeeded. succeeded ≡ succeeds (⟦<Engine<G, T, M> as Stepper<D>>⟧.seen engine.old).kv.durable command) }
     ensures running { engine.new.running ≡ engine.old.running }
-    ensures ready { OnOk result (IsReady (G.shown engine.new.log).ready (T.shown engine.new.meta).ready (M.shown engine.new.state).ready
-        (G.shown engine.new.log).value (M.map engine.new.state) engine.new.running) }
-    ensures rests { OnOk result (IsTrue (D.kind disk.old).tells → AllRest ((G.shown engine.new.log).rests (D.content disk.new))
-        ((T.shown engine.new.meta).rests (D.content disk.new)) (AtRest (M.shown engine.new.state) (M.map engine.new.state) (D.content disk.new))) }
-    ensures weight { OnOk result ((G.shown engine.new.log).weight + (T.shown engine.new.meta).weight + (M.shown engine.new.state).weight
-        ≤ (G.shown engine.old.log).weight + (T.shown engine.old.meta).weight + (M.shown engine.old.state).weight + commit_rise command) }
-    ensures refused { IfErr result (λ e. IsRefusal (Rose (D.faults disk.old) (D.faults disk.new)) (D.kind disk.old).limit e) }
-    ensures full { IfErr result (IsFullBy (D.kind disk.old).limit ((G.shown engine.old.log).weight + (T.shown engine.old.meta).weight + (M.shown engine.old.state).weight + commit_rise command)) }
+    ensures ready { OnOk result (⟦<Engine<G, T, M> as Stepper<D>>⟧.seen engine.new).ready }
     ensures meta { engine.new.meta ≡ engine.old.meta }
-    ensures whole { OnOk result (engine.new.failed ≡ false) }
     ensures still { IfErr result (λ e. engine.old.failed ≡ true → engine.new.failed ≡ true) }
-    ensures left { IfErr result (FailsOrStays (⟦<Engine<G, T, M> as Stepper<D>>⟧.failed engine.new)
-        (IsUntouched D.Disk ⟦<Engine<G, T, M> as Stepper<D>>⟧.kv ⟦<Engine<G, T, M> as Stepper<D>>⟧.log ⟦<Engine<G, T, M> as Stepper<D>>⟧.weight ⟦<Engine<G, T, M> as Stepper<D>>⟧.ready ⟦<Engine<G, T, M> as Stepper<D>>⟧.rests engine.old engine.new disk.old disk.new)
-        (HasJoined (G.shown engine.old.log).value (next_entry (kv_of (T.shown engine.old.meta).value (M.map engine.old.state) engine.old.running) time command ∷ []) (G.shown engine.new.log).value)) }
 {
     let index = engine.state.last_applied().index + 1;
     let term = current_term::<D, T>(&engine.meta);
@@ -198,39 +154,17 @@ fn answer<D: Disk, G: LogStore<D>, T: MetaStore<D>, M: StateMachine<D>>(
     frame: Frame,
     time: u64,
 ) -> Result<Reply, Error>
-    requires ready { IsReady (G.shown engine.old.log).ready (T.shown engine.old.meta).ready (M.shown engine.old.state).ready
-        (G.shown engine.old.log).value (M.map engine.old.state) engine.old.running }
-    requires rests { IsTrue (D.kind disk.old).tells → AllRest ((G.shown engine.old.log).rests (D.content disk.old))
-        ((T.shown engine.old.meta).rests (D.content disk.old)) (AtRest (M.shown engine.old.state) (M.map engine.old.state) (D.content disk.old)) }
-    requires whole { engine.old.failed ≡ false }
+    requires stands { CanGoOn D.Disk (⟦<Engine<G, T, M> as Stepper<D>>⟧.seen engine.old) disk.old }
     requires time { 1 ≤ time }
-    ensures disk { DiskGoesOn D.kind D.moment D.images D.faults disk.old disk.new }
-    ensures snapshot { IsTrue (D.kind disk.old).tells → SparesFamily snapshot_family D.content D.moment D.images disk.old disk.new }
-    ensures moves { IsTrue (D.kind disk.old).tells → ⟦<Engine<G, T, M> as Stepper<D>>⟧.told
-        → OldOrNew ⟦<Engine<G, T, M> as Stepper<D>>⟧.holds (D.images disk.new) (D.moment disk.old) (D.moment disk.new)
-        (durable_of (T.shown engine.old.meta).value (M.map engine.old.state))
-        (answer (kv_of (T.shown engine.old.meta).value (M.map engine.old.state) engine.old.running) time frame).after.durable }
-    ensures answered { IfOk result (λ reply. answer (kv_of (T.shown engine.old.meta).value (M.map engine.old.state) engine.old.running) time frame
-        ≡ record {
-          after = kv_of (T.shown engine.new.meta).value (M.map engine.new.state) engine.new.running;
-          reply = Some reply;
-          events = [];
-          logged = (answer (kv_of (T.shown engine.old.meta).value (M.map engine.old.state) engine.old.running) time frame).logged;
-        }) }
-    ensures logged { OnOk result ((G.shown engine.new.log).value ≡ appended (G.shown engine.old.log).value
-        (answer (kv_of (T.shown engine.old.meta).value (M.map engine.old.state) engine.old.running) time frame).logged) }
-    ensures ready { OnOk result (IsReady (G.shown engine.new.log).ready (T.shown engine.new.meta).ready (M.shown engine.new.state).ready
-        (G.shown engine.new.log).value (M.map engine.new.state) engine.new.running) }
-    ensures rests { OnOk result (IsTrue (D.kind disk.old).tells → AllRest ((G.shown engine.new.log).rests (D.content disk.new))
-        ((T.shown engine.new.meta).rests (D.content disk.new)) (AtRest (M.shown engine.new.state) (M.map engine.new.state) (D.content disk.new))) }
-    ensures weight { OnOk result ((G.shown engine.new.log).weight + (T.shown engine.new.meta).weight + (M.shown engine.new.state).weight
-        ≤ (G.shown engine.old.log).weight + (T.shown engine.old.meta).weight + (M.shown engine.old.state).weight + frame_rise frame) }
-    ensures refused { IfErr result (λ e. IsRefusal (Rose (D.faults disk.old) (D.faults disk.new)) (D.kind disk.old).limit e) }
-    ensures full { IfErr result (IsFullBy (D.kind disk.old).limit ((G.shown engine.old.log).weight + (T.shown engine.old.meta).weight + (M.shown engine.old.state).weight + frame_rise frame)) }
-    ensures whole { OnOk result (engine.new.failed ≡ false) }
-    ensures left { IfErr result (FailsOrStays (⟦<Engine<G, T, M> as Stepper<D>>⟧.failed engine.new)
-        (IsUntouched D.Disk ⟦<Engine<G, T, M> as Stepper<D>>⟧.kv ⟦<Engine<G, T, M> as Stepper<D>>⟧.log ⟦<Engine<G, T, M> as Stepper<D>>⟧.weight ⟦<Engine<G, T, M> as Stepper<D>>⟧.ready ⟦<Engine<G, T, M> as Stepper<D>>⟧.rests engine.old engine.new disk.old disk.new)
-        (HasJoined (G.shown engine.old.log).value (answer (kv_of (T.shown engine.old.meta).value (M.map engine.old.state) engine.old.running) time frame).logged (G.shown engine.new.log).value)) }
+    ensures makes { Changes D.Disk (⟦<Engine<G, T, M> as Stepper<D>>⟧.seen engine.old) (⟦<Engine<G, T, M> as Stepper<D>>⟧.seen engine.new) disk.old disk.new ⟦<Engine<G, T, M> as Stepper<D>>⟧.says
+        (answer (⟦<Engine<G, T, M> as Stepper<D>>⟧.seen engine.old).kv time frame).after.durable (answer (⟦<Engine<G, T, M> as Stepper<D>>⟧.seen engine.old).kv time frame).logged (frame_rise frame) result }
+    ensures answered { IfOk result (λ reply. answer (⟦<Engine<G, T, M> as Stepper<D>>⟧.seen engine.old).kv time frame ≡ record {
+      after = (⟦<Engine<G, T, M> as Stepper<D>>⟧.seen engine.new).kv;
+      reply = Some reply;
+      events = [];
+      logged = (answer (⟦<Engine<G, T, M> as Stepper<D>>⟧.seen engine.old).kv time frame).logged;
+    }) }
+    ensures ready { OnOk result (⟦<Engine<G, T, M> as Stepper<D>>⟧.seen engine.new).ready }
 {
     match ask::<D, M>(engine.alloc, &engine.state, &engine.running, frame)? {
         Asked::Commit(command) => {
@@ -244,31 +178,28 @@ fn answer<D: Disk, G: LogStore<D>, T: MetaStore<D>, M: StateMachine<D>>(
 impl<D: Disk, G: LogStore<D>, T: MetaStore<D>, M: StateMachine<D>> Stepper<D> for Engine<G, T, M> {
     ghost use Rattle.den_core.specs.Joined.{joined_here, failed_not_ready};
 
-    ghost kv = { λ e. kv_of (T.shown e.meta).value (M.map e.state) e.running };
+    ghost seen = { λ e. record {
+      kv = kv_of (T.shown e.meta).value (M.map e.state) e.running;
+      log = (G.shown e.log).value;
+      weight = (G.shown e.log).weight + (T.shown e.meta).weight + (M.shown e.state).weight;
+      ready = (e.failed ≡ false) × IsReady (G.shown e.log).ready (T.shown e.meta).ready (M.shown e.state).ready (G.shown e.log).value (M.map e.state) e.running;
+      failed = HasFailed e.failed (G.shown e.log).ready (T.shown e.meta).ready (M.shown e.state).ready;
+      rests = λ content. AllRest ((G.shown e.log).rests content) ((T.shown e.meta).rests content) (AtRest (M.shown e.state) (M.map e.state) content);
+    } };
 
-    ghost log = { λ e. (G.shown e.log).value };
+    ghost says = { record {
+      told = G.holds.told × T.holds.told × M.holds.told;
+      holds = λ files. joined (G.holds.of files) (T.holds.of files) (M.holds.of files);
+      logs = λ files. G.holds.of files;
+    } };
 
-    ghost told = { G.holds.told × T.holds.told × M.holds.told };
-
-    ghost holds = { λ files. joined (G.holds.of files) (T.holds.of files) (M.holds.of files) };
-
-    ghost logs = { λ files. G.holds.of files };
-
-    ghost rests = { λ e content. AllRest ((G.shown e.log).rests content) ((T.shown e.meta).rests content) (AtRest (M.shown e.state) (M.map e.state) content) };
-
-    ghost ready = { λ e. (e.failed ≡ false) × IsReady (G.shown e.log).ready (T.shown e.meta).ready (M.shown e.state).ready (G.shown e.log).value (M.map e.state) e.running };
-
-    ghost failed = { λ e. HasFailed e.failed (G.shown e.log).ready (T.shown e.meta).ready (M.shown e.state).ready };
-
-    ghost weight = { λ e. (G.shown e.log).weight + (T.shown e.meta).weight + (M.shown e.state).weight };
-
-    ghost rests_hold = { λ told e content files ready rests image. joined_here (G.holds.of files) (T.holds.of files) (M.holds.of files) (G.shown e.log).value (T.shown e.meta).value (M.map e.state) ready.1.caught_up
-        (G.lies.rests_hold told.0 e.log content files ready.1.log rests.log image) (T.lies.rests_hold told.1 e.meta content files ready.1.meta rests.meta image)
-        (rest_hold M.lies told.2 e.state (M.map e.state) content files ready.1.state rests.state image) };
-
-    ghost rests_log = { λ told e content files ready rests image. G.lies.rests_hold told.0 e.log content files ready.1.log rests.log image };
-
-    ghost failed_ends = { λ e ready failed. failed_not_ready e.failed (G.shown e.log).ready (T.shown e.meta).ready (M.shown e.state).ready ready.0 ready.1.log ready.1.meta ready.1.state failed };
+    ghost agrees = { record {
+      rests_hold = λ told e content files ready rests image. joined_here (G.holds.of files) (T.holds.of files) (M.holds.of files) (G.shown e.log).value (T.shown e.meta).value (M.map e.state) ready.1.caught_up
+          (G.lies.rests_hold told.0 e.log content files ready.1.log rests.log image) (T.lies.rests_hold told.1 e.meta content files ready.1.meta rests.meta image)
+          (rest_hold M.lies told.2 e.state (M.map e.state) content files ready.1.state rests.state image);
+      rests_log = λ told e content files ready rests image. G.lies.rests_hold told.0 e.log content files ready.1.log rests.log image;
+      failed_ends = λ e ready failed. failed_not_ready e.failed (G.shown e.log).ready (T.shown e.meta).ready (M.shown e.state).ready ready.0 ready.1.log ready.1.meta ready.1.state failed;
+    } };
 
     fn open_at(&mut self, disk: &mut D, time: u64) -> Result<(), Error> {
         raise(self, disk)?;

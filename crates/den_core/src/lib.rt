@@ -8,10 +8,10 @@
 //! Invariants, and where each stands:
 //!
 //! 1. The map has each entry of the log, and none above its mark was purged: `IsCaughtUp` in specs/Parts.antt.
-//! 2. Files at rest stand for the engine's durable part, where its stores tell what files give: the law `rests_hold` of
+//! 2. Files at rest stand for the engine's durable part, where its stores tell what files give: the law `agrees` of
 //!    `Stepper`.
-//! 3. A step is the definition's: `state` and `answer` of `Stepper::step`. A crash inside it leaves the state after a
-//!    front of its steps: `survives`.
+//! 3. A step is the definition's: `done` of the record `Makes` in specs/Making.antt, and `answer` of `Stepper::step`. A
+//!    crash inside it leaves the state after a front of its steps: `survives` of `Makes`.
 //! 4. No byte of a reply is sent before its step is on the disk: `survives` of `serve`, which ties bytes sent by a
 //!    moment to the images at that moment. `early_is_refused` says that a server that sends first would not meet it.
 //! 5. The frames are those of the input, however it is cut: `found` of `FrameReader::next`.

@@ -172,15 +172,15 @@ fn catch_up<D: Disk, G: LogStore<D>, T: MetaStore<D>, M: StateMachine<D>>(
     requires no_ttl { asks_lease entries.now ≡ false }
     ensures disk { DiskGoesOn D.kind D.moment D.images D.faults disk.old disk.new }
     ensures snapshot { IsTrue (D.kind disk.old).tells → SparesFamily snapshot_family D.content D.moment D.images disk.old disk.new }
-    ensures survives { (kept : Durable) → IsTrue (D.kind disk.old).tells → ⟦<Engine<G, T, M> as Stepper<D>>⟧.told → durable (G.shown log).value (T.shown meta).value (M.map state) ≡ Some kept
-        → Survives ⟦<Engine<G, T, M> as Stepper<D>>⟧.holds (D.images disk.new) (D.moment disk.old) (D.moment disk.new) []
+    ensures survives { (kept : Durable) → IsTrue (D.kind disk.old).tells → ⟦<Engine<G, T, M> as Stepper<D>>⟧.says.told → durable (G.shown log).value (T.shown meta).value (M.map state) ≡ Some kept
+        → Survives ⟦<Engine<G, T, M> as Stepper<D>>⟧.says.holds (D.images disk.new) (D.moment disk.old) (D.moment disk.new) []
         (record { durable = kept; running = running }) [] }
-    ensures opened { IfOk result (λ engine. durable (G.shown log).value (T.shown meta).value (M.map state) ≡ Some (⟦<Engine<G, T, M> as Stepper<D>>⟧.kv engine).durable) }
-    ensures running { IfOk result (λ engine. (⟦<Engine<G, T, M> as Stepper<D>>⟧.kv engine).running ≡ running) }
-    ensures log { IfOk result (λ engine. ⟦<Engine<G, T, M> as Stepper<D>>⟧.log engine ≡ (G.shown log).value) }
-    ensures ready { IfOk result (λ engine. ⟦<Engine<G, T, M> as Stepper<D>>⟧.ready engine) }
-    ensures rests { IfOk result (λ engine. IsTrue (D.kind disk.old).tells → ⟦<Engine<G, T, M> as Stepper<D>>⟧.rests engine (D.content disk.new)) }
-    ensures weight { IfOk result (λ engine. ⟦<Engine<G, T, M> as Stepper<D>>⟧.weight engine ≤ (G.shown log).weight + (T.shown meta).weight + (M.shown state).weight + store_rise (entries_size entries.now)) }
+    ensures opened { IfOk result (λ engine. durable (G.shown log).value (T.shown meta).value (M.map state) ≡ Some (⟦<Engine<G, T, M> as Stepper<D>>⟧.seen engine).kv.durable) }
+    ensures running { IfOk result (λ engine. (⟦<Engine<G, T, M> as Stepper<D>>⟧.seen engine).kv.running ≡ running) }
+    ensures log { IfOk result (λ engine. (⟦<Engine<G, T, M> as Stepper<D>>⟧.seen engine).log ≡ (G.shown log).value) }
+    ensures ready { IfOk result (λ engine. (⟦<Engine<G, T, M> as Stepper<D>>⟧.seen engine).ready) }
+    ensures rests { IfOk result (λ engine. IsTrue (D.kind disk.old).tells → (⟦<Engine<G, T, M> as Stepper<D>>⟧.seen engine).rests (D.content disk.new)) }
+    ensures weight { IfOk result (λ engine. (⟦<Engine<G, T, M> as Stepper<D>>⟧.seen engine).weight ≤ (G.shown log).weight + (T.shown meta).weight + (M.shown state).weight + store_rise (entries_size entries.now)) }
     ensures refused { IfErr result (λ e. IsRefusal (Rose (D.faults disk.old) (D.faults disk.new)) (D.kind disk.old).limit e) }
     ensures full { IfErr result (IsFullBy (D.kind disk.old).limit ((G.shown log).weight + (T.shown meta).weight + (M.shown state).weight + store_rise (entries_size entries.now))) }
 {
@@ -207,17 +207,17 @@ pub fn recover<D: Disk, G: LogStore<D>, T: MetaStore<D>, M: StateMachine<D>>(
     requires plain { IsPlain running }
     ensures disk { DiskGoesOn D.kind D.moment D.images D.faults disk.old disk.new }
     ensures snapshot { IsTrue (D.kind disk.old).tells → SparesFamily snapshot_family D.content D.moment D.images disk.old disk.new }
-    ensures survives { (kept : Durable) → IsTrue (D.kind disk.old).tells → ⟦<Engine<G, T, M> as Stepper<D>>⟧.told → durable (G.shown log).value (T.shown meta).value (M.map state) ≡ Some kept
-        → Survives ⟦<Engine<G, T, M> as Stepper<D>>⟧.holds (D.images disk.new) (D.moment disk.old) (D.moment disk.new) []
+    ensures survives { (kept : Durable) → IsTrue (D.kind disk.old).tells → ⟦<Engine<G, T, M> as Stepper<D>>⟧.says.told → durable (G.shown log).value (T.shown meta).value (M.map state) ≡ Some kept
+        → Survives ⟦<Engine<G, T, M> as Stepper<D>>⟧.says.holds (D.images disk.new) (D.moment disk.old) (D.moment disk.new) []
         (record { durable = kept; running = running }) [] }
-    ensures opened { IfOk result (λ engine. durable (G.shown log).value (T.shown meta).value (M.map state) ≡ Some (⟦<Engine<G, T, M> as Stepper<D>>⟧.kv engine).durable) }
-    ensures running { IfOk result (λ engine. (⟦<Engine<G, T, M> as Stepper<D>>⟧.kv engine).running ≡ running) }
-    ensures log { IfOk result (λ engine. ⟦<Engine<G, T, M> as Stepper<D>>⟧.log engine ≡ (G.shown log).value) }
-    ensures ready { IfOk result (λ engine. ⟦<Engine<G, T, M> as Stepper<D>>⟧.ready engine) }
-    ensures rests { IfOk result (λ engine. IsTrue (D.kind disk.old).tells → ⟦<Engine<G, T, M> as Stepper<D>>⟧.rests engine (D.content disk.new)) }
-    ensures term { IfOk result (λ engine. (⟦<Engine<G, T, M> as Stepper<D>>⟧.kv engine).durable.term < 2 ^ 64 - 1) }
-    ensures index { IfOk result (λ engine. (⟦<Engine<G, T, M> as Stepper<D>>⟧.kv engine).durable.last_index < 2 ^ 64 - 1) }
-    ensures weight { IfOk result (λ engine. ⟦<Engine<G, T, M> as Stepper<D>>⟧.weight engine
+    ensures opened { IfOk result (λ engine. durable (G.shown log).value (T.shown meta).value (M.map state) ≡ Some (⟦<Engine<G, T, M> as Stepper<D>>⟧.seen engine).kv.durable) }
+    ensures running { IfOk result (λ engine. (⟦<Engine<G, T, M> as Stepper<D>>⟧.seen engine).kv.running ≡ running) }
+    ensures log { IfOk result (λ engine. (⟦<Engine<G, T, M> as Stepper<D>>⟧.seen engine).log ≡ (G.shown log).value) }
+    ensures ready { IfOk result (λ engine. (⟦<Engine<G, T, M> as Stepper<D>>⟧.seen engine).ready) }
+    ensures rests { IfOk result (λ engine. IsTrue (D.kind disk.old).tells → (⟦<Engine<G, T, M> as Stepper<D>>⟧.seen engine).rests (D.content disk.new)) }
+    ensures term { IfOk result (λ engine. (⟦<Engine<G, T, M> as Stepper<D>>⟧.seen engine).kv.durable.term < 2 ^ 64 - 1) }
+    ensures index { IfOk result (λ engine. (⟦<Engine<G, T, M> as Stepper<D>>⟧.seen engine).kv.durable.last_index < 2 ^ 64 - 1) }
+    ensures weight { IfOk result (λ engine. (⟦<Engine<G, T, M> as Stepper<D>>⟧.seen engine).weight
         ≤ (G.shown log).weight + (T.shown meta).weight + (M.shown state).weight + store_rise (entries_size (above (M.map state).mark.index (G.shown log).value.entries))) }
     ensures unrefused { OnOk result (opening_refusal (G.place log) (G.shown log).value (T.shown meta).value (M.map state) ≡ None) }
     ensures refused { IfErr result (λ e. IsOpeningFailure (Rose (D.faults disk.old) (D.faults disk.new)) (D.kind disk.old).limit

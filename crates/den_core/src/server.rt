@@ -1,15 +1,13 @@
 //! The loop that serves frames: each is a step, and what the step answers is sent behind it.
 ghost use Rattle.std.specs.Prelude.{◌≡◌, ◌<◌, ◌≤◌, ◌^◌, ◌+◌, ◌-◌, ◌++◌, ℕ, List, drop, IsTrue, OnOk, IfErr, length};
-ghost use Rattle.den_core.specs.Full.{IsFullBy};
-ghost use Rattle.den_disk.specs.declared.place.Family.TheVariants.{Snapshot as snapshot_family};
-ghost use Rattle.den_disk.specs.Goes.{Rose, IsPrefix, stamped, added, DiskGoesOn, LinkGoesOn, ClockGoesOn};
+ghost use Rattle.den_disk.specs.Goes.{Rose, IsPrefix, stamped, added, LinkGoesOn, ClockGoesOn};
 ghost use Rattle.den_model.specs.Crash.{Survives, IsWhole, IsDone, IsAnswered, IsServed, Tells};
 ghost use Rattle.den_model.specs.Frames.{framed, frames};
 ghost use Rattle.den_model.specs.Plan.{turn, turns, plan};
 ghost use Rattle.den_core.specs.Answers.{frames_of};
 ghost use Rattle.den_core.specs.Early.{EarlyIsRefused};
-ghost use Rattle.den_core.specs.Refusals.{IsLinkRefusal, IsServeRefusal};
-ghost use Rattle.den_core.specs.Spared.{SparesFamily};
+ghost use Rattle.den_core.specs.Making.{CanGoOn, Serves};
+ghost use Rattle.den_core.specs.Refusals.{IsLinkRefusal};
 ghost use Rattle.den_core.specs.Weights.{frame_rise, run_weight, served_weight};
 
 use crate::{FrameReader, StepOut, Stepper};
@@ -88,24 +86,19 @@ fn serve_frame<D: Disk, L: Link, S: Stepper<D>>(
     time: u64,
     buffer: &mut Vec<u8>,
 ) -> Result<(), Error>
-    requires ready { S.ready stepper.old }
-    requires rests { IsTrue (D.kind disk.old).tells → S.rests stepper.old (D.content disk.old) }
+    requires stands { CanGoOn D.Disk (S.seen stepper.old) disk.old }
     requires time { 1 ≤ time }
-    ensures disk { DiskGoesOn D.kind D.moment D.images D.faults disk.old disk.new }
-    ensures snapshot { IsTrue (D.kind disk.old).tells → SparesFamily snapshot_family D.content D.moment D.images disk.old disk.new }
     ensures link { LinkGoesOn L.tells L.sent L.budget L.taken L.faults link.old link.new }
     ensures left { IsTrue (L.tells link.old) → L.left link.new ≡ L.left link.old }
     ensures taken { L.taken link.new ≡ L.taken link.old }
-    ensures survives { IsTrue (D.kind disk.old).tells → IsTrue (L.tells link.old) → S.told
-        → Survives S.holds (D.images disk.new) (D.moment disk.old) (D.moment disk.new) (added (L.sent link.old) (L.sent link.new))
-        (S.kv stepper.old) (turn (S.kv stepper.old) frame time) }
+    ensures survives { IsTrue (D.kind disk.old).tells → IsTrue (L.tells link.old) → S.says.told
+        → Survives S.says.holds (D.images disk.new) (D.moment disk.old) (D.moment disk.new) (added (L.sent link.old) (L.sent link.new))
+        (S.seen stepper.old).kv (turn (S.seen stepper.old).kv frame time) }
     ensures whole { OnOk result (IsTrue (L.tells link.old)
-        → IsWhole (added (L.sent link.old) (L.sent link.new)) (S.kv stepper.old) (S.log stepper.old) (turn (S.kv stepper.old) frame time) (S.kv stepper.new) (S.log stepper.new)) }
-    ensures ready { OnOk result (S.ready stepper.new) }
-    ensures rests { OnOk result (IsTrue (D.kind disk.old).tells → S.rests stepper.new (D.content disk.new)) }
-    ensures weight { OnOk result (S.weight stepper.new ≤ S.weight stepper.old + frame_rise frame) }
-    ensures refused { IfErr result (λ e. IsServeRefusal (Rose (D.faults disk.old) (D.faults disk.new)) (Rose (L.faults link.old) (L.faults link.new)) (D.kind disk.old).limit e) }
-    ensures full { IfErr result (IsFullBy (D.kind disk.old).limit (S.weight stepper.old + frame_rise frame)) }
+        → IsWhole (added (L.sent link.old) (L.sent link.new)) (S.seen stepper.old).kv (S.seen stepper.old).log (turn (S.seen stepper.old).kv frame time) (S.seen stepper.new).kv (S.seen stepper.new).log) }
+    ensures weight { OnOk result ((S.seen stepper.new).weight ≤ (S.seen stepper.old).weight + frame_rise frame) }
+    ensures serves { Serves D.Disk (S.seen stepper.old) (S.seen stepper.new) disk.old disk.new (Rose (L.faults link.old) (L.faults link.new))
+        ((S.seen stepper.old).weight + frame_rise frame) result }
 {
     let out = stepper.step(disk, frame, time)?;
     send_all(link, disk, &out, buffer)?;
@@ -121,29 +114,24 @@ pub fn serve<D: Disk, L: Link, C: Clock, S: Stepper<D>>(
     limit: u32,
     alloc: Global,
 ) -> Result<(), Error>
-    requires ready { S.ready stepper.old }
-    requires rests { IsTrue (D.kind disk.old).tells → S.rests stepper.old (D.content disk.old) }
-    ensures disk { DiskGoesOn D.kind D.moment D.images D.faults disk.old disk.new }
-    ensures snapshot { IsTrue (D.kind disk.old).tells → SparesFamily snapshot_family D.content D.moment D.images disk.old disk.new }
+    requires stands { CanGoOn D.Disk (S.seen stepper.old) disk.old }
     ensures link { LinkGoesOn L.tells L.sent L.budget L.taken L.faults link.old link.new }
     ensures clock { ClockGoesOn C.tells C.readings clock.old clock.new }
     ensures counted { IsTrue (L.tells link.old) → L.taken link.new + length (L.left link.new) ≡ L.taken link.old + length (L.left link.old) }
 
     // At every exit, and after a crash at any moment, the disk stands for the state after a prefix of the turns that
     // holds each step of which a byte was sent.
-    ensures survives { Tells (D.kind disk.old).tells (L.tells link.old) (C.tells clock.new) → S.told
-        → Survives S.holds (D.images disk.new) (D.moment disk.old) (D.moment disk.new) (added (L.sent link.old) (L.sent link.new))
-        (S.kv stepper.old) (turns (S.kv stepper.old) (frames limit (L.left link.old)) (added (C.readings clock.old) (C.readings clock.new))) }
+    ensures survives { Tells (D.kind disk.old).tells (L.tells link.old) (C.tells clock.new) → S.says.told
+        → Survives S.says.holds (D.images disk.new) (D.moment disk.old) (D.moment disk.new) (added (L.sent link.old) (L.sent link.new))
+        (S.seen stepper.old).kv (turns (S.seen stepper.old).kv (frames limit (L.left link.old)) (added (C.readings clock.old) (C.readings clock.new))) }
 
     // At Ok all turns were made, exactly what they answer was sent, and their entries are in the log.
     ensures done { OnOk result (Tells (D.kind disk.old).tells (L.tells link.old) (C.tells clock.new)
         → IsDone (L.left link.new) (length (added (C.readings clock.old) (C.readings clock.new))) (length (frames limit (L.left link.old)))
-        (added (L.sent link.old) (L.sent link.new)) (S.kv stepper.old) (S.log stepper.old)
-        (turns (S.kv stepper.old) (frames limit (L.left link.old)) (added (C.readings clock.old) (C.readings clock.new))) (S.kv stepper.new) (S.log stepper.new)) }
-    ensures ready { OnOk result (S.ready stepper.new) }
-    ensures rests { OnOk result (IsTrue (D.kind disk.old).tells → S.rests stepper.new (D.content disk.new)) }
-    ensures refused { IfErr result (λ e. IsServeRefusal (Rose (D.faults disk.old) (D.faults disk.new)) (Rose (L.faults link.old) (L.faults link.new)) (D.kind disk.old).limit e) }
-    ensures full { IfErr result (IsFullBy (D.kind disk.old).limit (served_weight (S.weight stepper.old) (L.taken link.new - L.taken link.old))) }
+        (added (L.sent link.old) (L.sent link.new)) (S.seen stepper.old).kv (S.seen stepper.old).log
+        (turns (S.seen stepper.old).kv (frames limit (L.left link.old)) (added (C.readings clock.old) (C.readings clock.new))) (S.seen stepper.new).kv (S.seen stepper.new).log) }
+    ensures serves { Serves D.Disk (S.seen stepper.old) (S.seen stepper.new) disk.old disk.new (Rose (L.faults link.old) (L.faults link.new))
+        (served_weight (S.seen stepper.old).weight (L.taken link.new - L.taken link.old)) result }
 {
     let mut reader = FrameReader::new(alloc, limit);
     let mut buffer = Vec::new(alloc);
@@ -167,37 +155,32 @@ pub fn run_from<D: Disk, L: Link, C: Clock, S: Stepper<D>>(
     limit: u32,
     alloc: Global,
 ) -> Result<(), Error>
-    requires ready { S.ready stepper.old }
-    requires rests { IsTrue (D.kind disk.old).tells → S.rests stepper.old (D.content disk.old) }
-    requires term { (S.kv stepper.old).durable.term < 2 ^ 64 - 1 }
-    requires index { (S.kv stepper.old).durable.last_index < 2 ^ 64 - 1 }
+    requires stands { CanGoOn D.Disk (S.seen stepper.old) disk.old }
+    requires term { (S.seen stepper.old).kv.durable.term < 2 ^ 64 - 1 }
+    requires index { (S.seen stepper.old).kv.durable.last_index < 2 ^ 64 - 1 }
 
     // At Ok exactly the plan's output was sent.
     ensures answered { OnOk result (Tells (D.kind disk.old).tells (L.tells link.old) (C.tells clock.new)
         → let readings = added (C.readings clock.old) (C.readings clock.new) in
         IsAnswered (L.left link.new) (length readings) (length (frames limit (L.left link.old)))
-        (added (L.sent link.old) (L.sent link.new)) (S.kv stepper.old) (plan (S.kv stepper.old) (frames limit (L.left link.old)) readings)) }
+        (added (L.sent link.old) (L.sent link.new)) (S.seen stepper.old).kv (plan (S.seen stepper.old).kv (frames limit (L.left link.old)) readings)) }
 
     // And its end is on the disk, with the plan's entries in the log.
-    ensures served { OnOk result (Tells (D.kind disk.old).tells (L.tells link.old) (C.tells clock.new) → S.told
+    ensures served { OnOk result (Tells (D.kind disk.old).tells (L.tells link.old) (C.tells clock.new) → S.says.told
         → let readings = added (C.readings clock.old) (C.readings clock.new) in
-        IsServed S.holds S.logs (D.images disk.new) (D.moment disk.new) (L.left link.new) (length readings) (length (frames limit (L.left link.old)))
-        (added (L.sent link.old) (L.sent link.new)) (S.kv stepper.old) (S.log stepper.old) (plan (S.kv stepper.old) (frames limit (L.left link.old)) readings)) }
+        IsServed S.says.holds S.says.logs (D.images disk.new) (D.moment disk.new) (L.left link.new) (length readings) (length (frames limit (L.left link.old)))
+        (added (L.sent link.old) (L.sent link.new)) (S.seen stepper.old).kv (S.seen stepper.old).log (plan (S.seen stepper.old).kv (frames limit (L.left link.old)) readings)) }
 
     // At every exit, and after a crash at any moment, inside a call too, the disk stands for the state after a prefix
     // of the plan that holds each step of which a byte was sent.
-    ensures any_moment { Tells (D.kind disk.old).tells (L.tells link.old) (C.tells clock.new) → S.told
-        → Survives S.holds (D.images disk.new) (D.moment disk.old) (D.moment disk.new) (added (L.sent link.old) (L.sent link.new))
-        (S.kv stepper.old) (plan (S.kv stepper.old) (frames limit (L.left link.old)) (added (C.readings clock.old) (C.readings clock.new))) }
-    ensures disk { DiskGoesOn D.kind D.moment D.images D.faults disk.old disk.new }
-    ensures snapshot { IsTrue (D.kind disk.old).tells → SparesFamily snapshot_family D.content D.moment D.images disk.old disk.new }
+    ensures any_moment { Tells (D.kind disk.old).tells (L.tells link.old) (C.tells clock.new) → S.says.told
+        → Survives S.says.holds (D.images disk.new) (D.moment disk.old) (D.moment disk.new) (added (L.sent link.old) (L.sent link.new))
+        (S.seen stepper.old).kv (plan (S.seen stepper.old).kv (frames limit (L.left link.old)) (added (C.readings clock.old) (C.readings clock.new))) }
     ensures link { LinkGoesOn L.tells L.sent L.budget L.taken L.faults link.old link.new }
     ensures clock { ClockGoesOn C.tells C.readings clock.old clock.new }
     ensures counted { IsTrue (L.tells link.old) → L.taken link.new + length (L.left link.new) ≡ L.taken link.old + length (L.left link.old) }
-    ensures ready { OnOk result (S.ready stepper.new) }
-    ensures rests { OnOk result (IsTrue (D.kind disk.old).tells → S.rests stepper.new (D.content disk.new)) }
-    ensures refused { IfErr result (λ e. IsServeRefusal (Rose (D.faults disk.old) (D.faults disk.new)) (Rose (L.faults link.old) (L.faults link.new)) (D.kind disk.old).limit e) }
-    ensures full { IfErr result (IsFullBy (D.kind disk.old).limit (run_weight (S.weight stepper.old) (L.taken link.new - L.taken link.old))) }
+    ensures serves { Serves D.Disk (S.seen stepper.old) (S.seen stepper.new) disk.old disk.new (Rose (L.faults link.old) (L.faults link.new))
+        (run_weight (S.seen stepper.old).weight (L.taken link.new - L.taken link.old)) result }
 {
     let time = clock.now().max(1);
     stepper.open_at(disk, time)?;

@@ -114,15 +114,15 @@ pub fn open_folder<D: Disk>(
         → SurvivesOpening durable_in (D.images disk.old) (D.images disk.new) (D.moment disk.old) (D.moment disk.new) (IsOk result)
         (D.content disk.new ≡ D.content disk.old) [] (entered config.now kept) [] }
     ensures kv { IfOk result (λ engine. (kept : Durable) → IsTrue (D.kind disk.old).tells → durable_in (D.content disk.old).reading ≡ Some kept
-        → ⟦<Engine<FileLogStore, FileMetaStore, FileStateMachine> as Stepper<D>>⟧.kv engine ≡ entered config.now kept) }
+        → (⟦<Engine<FileLogStore, FileMetaStore, FileStateMachine> as Stepper<D>>⟧.seen engine).kv ≡ entered config.now kept) }
     ensures log { IfOk result (λ engine. IsTrue (D.kind disk.old).tells
-        → log_in (D.content disk.old).reading ≡ Ok (⟦<Engine<FileLogStore, FileMetaStore, FileStateMachine> as Stepper<D>>⟧.log engine)) }
-    ensures term { IfOk result (λ engine. (⟦<Engine<FileLogStore, FileMetaStore, FileStateMachine> as Stepper<D>>⟧.kv engine).durable.term < 2 ^ 64 - 1) }
-    ensures index { IfOk result (λ engine. (⟦<Engine<FileLogStore, FileMetaStore, FileStateMachine> as Stepper<D>>⟧.kv engine).durable.last_index < 2 ^ 64 - 1) }
+        → log_in (D.content disk.old).reading ≡ Ok (⟦<Engine<FileLogStore, FileMetaStore, FileStateMachine> as Stepper<D>>⟧.seen engine).log) }
+    ensures term { IfOk result (λ engine. (⟦<Engine<FileLogStore, FileMetaStore, FileStateMachine> as Stepper<D>>⟧.seen engine).kv.durable.term < 2 ^ 64 - 1) }
+    ensures index { IfOk result (λ engine. (⟦<Engine<FileLogStore, FileMetaStore, FileStateMachine> as Stepper<D>>⟧.seen engine).kv.durable.last_index < 2 ^ 64 - 1) }
     ensures weight { IfOk result (λ engine. IsTrue (D.kind disk.old).tells
-        → ⟦<Engine<FileLogStore, FileMetaStore, FileStateMachine> as Stepper<D>>⟧.weight engine ≤ opened_weight (files_size (D.content disk.old).reading)) }
-    ensures ready { IfOk result (λ engine. ⟦<Engine<FileLogStore, FileMetaStore, FileStateMachine> as Stepper<D>>⟧.ready engine) }
-    ensures rests { IfOk result (λ engine. IsTrue (D.kind disk.old).tells → ⟦<Engine<FileLogStore, FileMetaStore, FileStateMachine> as Stepper<D>>⟧.rests engine (D.content disk.new)) }
+        → (⟦<Engine<FileLogStore, FileMetaStore, FileStateMachine> as Stepper<D>>⟧.seen engine).weight ≤ opened_weight (files_size (D.content disk.old).reading)) }
+    ensures ready { IfOk result (λ engine. (⟦<Engine<FileLogStore, FileMetaStore, FileStateMachine> as Stepper<D>>⟧.seen engine).ready) }
+    ensures rests { IfOk result (λ engine. IsTrue (D.kind disk.old).tells → (⟦<Engine<FileLogStore, FileMetaStore, FileStateMachine> as Stepper<D>>⟧.seen engine).rests (D.content disk.new)) }
     ensures snapshot { IsTrue (D.kind disk.old).tells → SparesFamily snapshot_family D.content D.moment D.images disk.old disk.new }
     ensures accepted { IfOk result (λ engine. IsTrue (D.kind disk.old).tells → refusal_in (D.content disk.old).reading ≡ None) }
     ensures refused { IfErr result (IsRunRefusal (Rose (D.faults disk.old) (D.faults disk.new)) ⊥ (IsTrue (D.kind disk.old).tells) (refusal_in (D.content disk.old).reading)

@@ -3,55 +3,105 @@ use Rattle.den_core.specs.Asked.{outcome_of}
 use Rattle.den_core.specs.Joined.{durable_is}
 use Rattle.den_core.specs.Refusals.{HasJoined}
 use Rattle.den_core.proofs.Spared.{gives_now, gives_old, all_give, spares_still}
-use Rattle.std.proofs.Common.{ap, refl, subst, sym, ◌∙◌}
-use Rattle.den_core.proofs.Refusing.{at_exit, left_weaker, memory_stays}
+use Rattle.std.proofs.Common.{◌+◌, ◌≤◌, IfErr, rules, arith, ap, refl, subst, sym, ◌∙◌}
+use Rattle.den_core.proofs.Refusing.{at_exit, if_err_three, left_weaker, memory_stays, not_done}
+use Rattle.den_core.proofs.GoesOn.{disk_same}
+use Rattle.den_core.proofs.Steps.{moves_as}
+use Rattle.den_core.proofs.Weighing.{heavier}
+use Rattle.den_core.specs.Full.{IsFullBy}
+use Rattle.den_core.specs.Weights.{asked_rise, frame_rise}
+use Rattle.den_disk.specs.Goes.{Rose}
+use Rattle.den_journal.specs.Causes.{IsRefusal}
+use Rattle.den_model.specs.Grown.{appended}
 use Rattle.den_core.proofs.engine.answer.Goals as goal
 use Rattle.den_state.specs.Machine.{AtRest, rest_hold}
 
 -- nothing was done
-pub returns-in_err-command-clause-moves : goal.returns-in_err-command-clause-moves
-returns-in_err-command-clause-moves g c = λ told held.
-    let D = g.D.Disk in
+pub returns-in_err-command-clause-makes : goal.returns-in_err-command-clause-makes
+returns-in_err-command-clause-makes g c =
+    let cause : IfErr c.from_residual.result (λ e. IsRefusal (Rose (g.D.Disk.faults c.args.disk.now) (g.D.Disk.faults c.args.disk.now)) (g.D.Disk.kind c.args.disk.now).limit e) = search rules in
+    let full : IfErr c.from_residual.result (λ e. IsFullBy (g.D.Disk.kind c.args.disk.now).limit ((g.G.LogStore.shown c.args.engine.now.log).weight + (g.T.MetaStore.shown c.args.engine.now.meta).weight + (g.M.StateMachine.shown c.args.engine.now.state).weight + frame_rise c.args.frame) e) = search rules in
+    record {
+      goes_on = disk_same _ _ _ _ _;
+      snapshot = λ told. spares_still _ _ _ _ _;
+      moves = λ told held.
+          let D = g.D.Disk in
+          let engine = c.args.engine.now in
+          let disk = c.args.disk.now in
+          let rests = c.requires.stands.rests told in
+          gives_old _ _ _ _ _ _ (all_give g.G.LogStore.holds.of g.T.MetaStore.holds.of g.M.StateMachine.holds.of _ _ _ _ _ _ _ (durable_is _ (g.T.MetaStore.shown engine.meta).value _ c.requires.stands.ready.1.caught_up)
+          (gives_now _ (g.G.LogStore.shown engine.log).rests _ _ _ _ (λ files. g.met.D.Disk.images_now disk files told)
+          (λ files rest at. g.met.G.LogStore.lies.rests_hold held.0 engine.log (D.content disk) files c.requires.stands.ready.1.log rest at) rests.log)
+          (gives_now _ (g.T.MetaStore.shown engine.meta).rests _ _ _ _ (λ files. g.met.D.Disk.images_now disk files told)
+          (λ files rest at. g.met.T.MetaStore.lies.rests_hold held.1 engine.meta (D.content disk) files c.requires.stands.ready.1.meta rest at) rests.meta)
+          (gives_now _ (AtRest (g.M.StateMachine.shown engine.state) (g.M.StateMachine.map engine.state)) _ _ _ _ (λ files. g.met.D.Disk.images_now disk files told)
+          (λ files rest at. rest_hold g.met.M.StateMachine.lies held.2 engine.state (g.M.StateMachine.map engine.state) (D.content disk) files c.requires.stands.ready.1.state rest at) rests.state));
+      done = not_done c.from_residual.result c.in_err-command.field-0.0 _ c.from_residual.ensures.1;
+      refused = if_err_three c.from_residual.result _ _ _ _ (λ e cause full left. record { cause = cause; full = full; left = left }) cause full
+          (at_exit c.from_residual.result c.in_err-command.field-0.0 _ c.from_residual.ensures.1
+          (memory_stays c.in_err-command.field-0.0 _ _ _ c.in_err-command.ensures.refused
+          (record { same_kv = refl; same_log = refl; same_weight = refl; same_disk = refl; stays_ready = λ ready. ready; stays_at_rest = λ told rests. rests })));
+    }
+
+pub returns-in-Say-clause-makes : goal.returns-in-Say-clause-makes
+returns-in-Say-clause-makes g c =
     let engine = c.args.engine.now in
-    let disk = c.args.disk.now in
-    let rests = c.requires.rests told in
-    gives_old _ _ _ _ _ _ (all_give g.G.LogStore.holds.of g.T.MetaStore.holds.of g.M.StateMachine.holds.of _ _ _ _ _ _ _ (durable_is _ (g.T.MetaStore.shown engine.meta).value _ c.requires.ready.caught_up)
-    (gives_now _ (g.G.LogStore.shown engine.log).rests _ _ _ _ (λ files. g.met.D.Disk.images_now disk files told)
-    (λ files rest at. g.met.G.LogStore.lies.rests_hold held.0 engine.log (D.content disk) files c.requires.ready.log rest at) rests.log)
-    (gives_now _ (g.T.MetaStore.shown engine.meta).rests _ _ _ _ (λ files. g.met.D.Disk.images_now disk files told)
-    (λ files rest at. g.met.T.MetaStore.lies.rests_hold held.1 engine.meta (D.content disk) files c.requires.ready.meta rest at) rests.meta)
-    (gives_now _ (AtRest (g.M.StateMachine.shown engine.state) (g.M.StateMachine.map engine.state)) _ _ _ _ (λ files. g.met.D.Disk.images_now disk files told)
-    (λ files rest at. rest_hold g.met.M.StateMachine.lies held.2 engine.state (g.M.StateMachine.map engine.state) (D.content disk) files c.requires.ready.state rest at) rests.state))
+    let is = sym (c.in_ok-command.ensures.asked (term_of (g.T.MetaStore.shown engine.meta).value) c.args.time ∙ ap (outcome_of _ c.args.time) c.in-Say.is) in
+    record {
+      goes_on = disk_same _ _ _ _ _;
+      snapshot = λ told. spares_still _ _ _ _ _;
+      moves = λ told held.
+          let D = g.D.Disk in
+          let engine = c.args.engine.now in
+          let disk = c.args.disk.now in
+          let rests = c.requires.stands.rests told in
+          gives_old _ _ _ _ _ _ (all_give g.G.LogStore.holds.of g.T.MetaStore.holds.of g.M.StateMachine.holds.of _ _ _ _ _ _ _ (durable_is _ (g.T.MetaStore.shown engine.meta).value _ c.requires.stands.ready.1.caught_up)
+          (gives_now _ (g.G.LogStore.shown engine.log).rests _ _ _ _ (λ files. g.met.D.Disk.images_now disk files told)
+          (λ files rest at. g.met.G.LogStore.lies.rests_hold held.0 engine.log (D.content disk) files c.requires.stands.ready.1.log rest at) rests.log)
+          (gives_now _ (g.T.MetaStore.shown engine.meta).rests _ _ _ _ (λ files. g.met.D.Disk.images_now disk files told)
+          (λ files rest at. g.met.T.MetaStore.lies.rests_hold held.1 engine.meta (D.content disk) files c.requires.stands.ready.1.meta rest at) rests.meta)
+          (gives_now _ (AtRest (g.M.StateMachine.shown engine.state) (g.M.StateMachine.map engine.state)) _ _ _ _ (λ files. g.met.D.Disk.images_now disk files told)
+          (λ files rest at. rest_hold g.met.M.StateMachine.lies held.2 engine.state (g.M.StateMachine.map engine.state) (D.content disk) files c.requires.stands.ready.1.state rest at) rests.state));
+      done = record {
+        durable = ap (λ o. o.after.durable) is;
+        logged = ap (λ o. appended (g.G.LogStore.shown engine.log).value o.logged) is;
+        weight = omega arith;
+        rests = c.requires.stands.rests;
+      };
+      refused = tt;
+    }
 
-pub returns-in-Say-clause-moves : goal.returns-in-Say-clause-moves
-returns-in-Say-clause-moves g c = λ told held.
-    let D = g.D.Disk in
+pub returns-in_err-succeeded-in-Commit-clause-makes : goal.returns-in_err-succeeded-in-Commit-clause-makes
+returns-in_err-succeeded-in-Commit-clause-makes g c =
     let engine = c.args.engine.now in
-    let disk = c.args.disk.now in
-    let rests = c.requires.rests told in
-    gives_old _ _ _ _ _ _ (all_give g.G.LogStore.holds.of g.T.MetaStore.holds.of g.M.StateMachine.holds.of _ _ _ _ _ _ _ (durable_is _ (g.T.MetaStore.shown engine.meta).value _ c.requires.ready.caught_up)
-    (gives_now _ (g.G.LogStore.shown engine.log).rests _ _ _ _ (λ files. g.met.D.Disk.images_now disk files told)
-    (λ files rest at. g.met.G.LogStore.lies.rests_hold held.0 engine.log (D.content disk) files c.requires.ready.log rest at) rests.log)
-    (gives_now _ (g.T.MetaStore.shown engine.meta).rests _ _ _ _ (λ files. g.met.D.Disk.images_now disk files told)
-    (λ files rest at. g.met.T.MetaStore.lies.rests_hold held.1 engine.meta (D.content disk) files c.requires.ready.meta rest at) rests.meta)
-    (gives_now _ (AtRest (g.M.StateMachine.shown engine.state) (g.M.StateMachine.map engine.state)) _ _ _ _ (λ files. g.met.D.Disk.images_now disk files told)
-    (λ files rest at. rest_hold g.met.M.StateMachine.lies held.2 engine.state (g.M.StateMachine.map engine.state) (D.content disk) files c.requires.ready.state rest at) rests.state))
+    let makes = c.in_err-succeeded-in-Commit.ensures.makes in
+    let is = sym (c.in_ok-command.ensures.asked (term_of (g.T.MetaStore.shown engine.meta).value) c.args.time ∙ ap (outcome_of _ c.args.time) c.in-Commit.is) in
+    record {
+      goes_on = makes.goes_on;
+      snapshot = makes.snapshot;
+      moves = λ told held. moves_as _ _ _ _ _ _ _ (ap (λ o. o.after.durable) is) (makes.moves told held);
+      done = not_done c.from_residual-in_err-succeeded-in-Commit.result c.in_err-succeeded-in-Commit.field-0.0 _ c.from_residual-in_err-succeeded-in-Commit.ensures.1;
+      refused = at_exit c.from_residual-in_err-succeeded-in-Commit.result c.in_err-succeeded-in-Commit.field-0.0 _ c.from_residual-in_err-succeeded-in-Commit.ensures.1 (record {
+        cause = makes.refused.cause;
+        full = heavier _ _ _ _ c.in_err-succeeded-in-Commit.field-0.0 refl (omega (arith, subst (λ asked. asked_rise asked ≤ frame_rise c.args.frame) c.in-Commit.is c.in_ok-command.ensures.rise)) makes.refused.full;
+        left = left_weaker c.in_err-succeeded-in-Commit.field-0.0 _ _ _ _ (subst (λ es. HasJoined (g.G.LogStore.shown engine.log).value es (g.G.LogStore.shown c.commit.new.engine.log).value) (ap (λ o. o.logged) is)) makes.refused.left;
+      });
+    }
 
-pub returns-in_err-command-clause-snapshot : goal.returns-in_err-command-clause-snapshot
-returns-in_err-command-clause-snapshot g c = λ told. spares_still _ _ _ _ _
-
-pub returns-in-Say-clause-snapshot : goal.returns-in-Say-clause-snapshot
-returns-in-Say-clause-snapshot g c = λ told. spares_still _ _ _ _ _
-
--- nothing was done
-pub returns-in_err-command-clause-left : goal.returns-in_err-command-clause-left
-returns-in_err-command-clause-left g c = at_exit c.from_residual.result c.in_err-command.field-0.0 _ c.from_residual.ensures.1
-    (memory_stays c.in_err-command.field-0.0 _ _ _ c.in_err-command.ensures.refused
-    (record { same_kv = refl; same_log = refl; same_weight = refl; same_disk = refl; stays_ready = λ ready. ready; stays_at_rest = λ told rests. rests }))
-
-pub returns-in_err-succeeded-in-Commit-clause-left : goal.returns-in_err-succeeded-in-Commit-clause-left
-returns-in_err-succeeded-in-Commit-clause-left g c =
+pub returns-in_ok-succeeded-in-Commit-clause-makes : goal.returns-in_ok-succeeded-in-Commit-clause-makes
+returns-in_ok-succeeded-in-Commit-clause-makes g c =
     let engine = c.args.engine.now in
-    at_exit c.from_residual-in_err-succeeded-in-Commit.result c.in_err-succeeded-in-Commit.field-0.0 _ c.from_residual-in_err-succeeded-in-Commit.ensures.1
-    (left_weaker c.in_err-succeeded-in-Commit.field-0.0 _ _ _ _ (subst (λ es. HasJoined (g.G.LogStore.shown engine.log).value es (g.G.LogStore.shown c.commit.new.engine.log).value)
-    (ap (λ o. o.logged) (sym (c.in_ok-command.ensures.asked (term_of (g.T.MetaStore.shown engine.meta).value) c.args.time ∙ ap (outcome_of _ c.args.time) c.in-Commit.is)))) c.in_err-succeeded-in-Commit.ensures.left)
+    let makes = c.in_ok-succeeded-in-Commit.ensures.makes in
+    let is = sym (c.in_ok-command.ensures.asked (term_of (g.T.MetaStore.shown engine.meta).value) c.args.time ∙ ap (outcome_of _ c.args.time) c.in-Commit.is) in
+    record {
+      goes_on = makes.goes_on;
+      snapshot = makes.snapshot;
+      moves = λ told held. moves_as _ _ _ _ _ _ _ (ap (λ o. o.after.durable) is) (makes.moves told held);
+      done = record {
+        durable = makes.done.durable ∙ ap (λ o. o.after.durable) is;
+        logged = makes.done.logged ∙ ap (λ o. appended (g.G.LogStore.shown engine.log).value o.logged) is;
+        weight = omega (arith, makes.done.weight, subst (λ asked. asked_rise asked ≤ frame_rise c.args.frame) c.in-Commit.is c.in_ok-command.ensures.rise);
+        rests = makes.done.rests;
+      };
+      refused = tt;
+    }

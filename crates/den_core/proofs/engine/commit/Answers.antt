@@ -1,4 +1,4 @@
-use Rattle.std.proofs.Common.{IsTrue, [], ◌∷◌, ◌+◌, Some, inl, inr, refl, sym, ap, subst, ◌∙◌, arith}
+use Rattle.std.proofs.Common.{IsTrue, IfErr, rules, [], ◌∷◌, ◌+◌, Some, inl, inr, refl, sym, ap, subst, ◌∙◌, arith}
 use Rattle.den_disk.specs.Families.{OldOrNew}
 use Rattle.den_journal.proofs.Moving.{old_or_new}
 use Rattle.den_disk.specs.Files.{Kind}
@@ -7,37 +7,80 @@ use Rattle.den_model.specs.Image.{joined}
 use Rattle.den_model.specs.Log.{changed}
 use Rattle.den_core.specs.Joined.{durable_is}
 use Rattle.den_core.specs.Parts.{durable_of}
+use Rattle.den_core.proofs.GoesOn.{disk_twice}
+use Rattle.den_disk.specs.Goes.{Rose}
+use Rattle.den_journal.specs.Causes.{IsRefusal}
 use Rattle.den_core.proofs.Durables.{logged_is, applied_again, applied_is, applied_next, caught_up_now, next_index, next_is}
 use Rattle.den_core.proofs.Spared.{gives_now, spared, apart_own, log_moves, state_moves, moves_then, meta_log, state_log, log_state, meta_state, snapshot_log, snapshot_state, spares_by, spares_twice}
 use Rattle.den_store.specs.Folds.{log_rises}
-use Rattle.den_core.proofs.Weighing.{entry_is, full_by, heavier_out}
-use Rattle.den_core.proofs.Refusing.{at_exit, fails_behind, fails_or_stays, untouched_only}
+use Rattle.den_core.proofs.Weighing.{entry_is, full_by, heavier, heavier_out}
+use Rattle.den_core.proofs.Refusing.{at_exit, fails_behind, fails_or_stays, if_err_three, not_done, untouched_only}
 use Rattle.den_core.specs.Parts.{IsCaughtUp}
 use Rattle.den_core.proofs.engine.commit.Goals as goal
 use Rattle.den_state.specs.Machine.{AtRest, rest_hold, rest_own}
 
 -- the entry joined the log, or did not
-pub returns-in_err-persist_entries-clause-moves : goal.returns-in_err-persist_entries-clause-moves
-returns-in_err-persist_entries-clause-moves g c = λ told held.
-    let D = g.D.Disk in
-    let engine = c.args.engine.now in
-    let disk = c.args.disk.now in
-    let persist = c.persist_entries.ensures in
-    let h = (g.T.MetaStore.shown engine.meta).value in
-    let s = g.M.StateMachine.map engine.state in
-    let next = next_index s _ _ _ c.args.command c.of.result c.of.ensures (ap (λ i. i.index) c.last_applied-index.ensures) in
-    let same = applied_next h s engine.running _ _ _ c.args.time c.args.command c.of.result c.of.ensures (ap (λ i. i.index) c.last_applied-index.ensures) c.current_term-term.ensures c.requires.no_ttl in
-    subst (λ d. OldOrNew (λ files. joined (g.G.LogStore.holds.of files) (g.T.MetaStore.holds.of files) (g.M.StateMachine.holds.of files)) (D.images c.persist_entries.new.disk) (D.moment disk) (D.moment c.persist_entries.new.disk) (durable_of h s) d) same
-    (log_moves g.G.LogStore.holds.of g.T.MetaStore.holds.of g.M.StateMachine.holds.of _ _ _ _ _ _ _ _ _
-    (durable_is (g.G.LogStore.shown engine.log).value h s c.requires.ready.caught_up)
-    (logged_is (g.G.LogStore.shown engine.log).value s c.of.result c.requires.ready.caught_up next h)
-    (old_or_new held.0 (persist.writes.moves told))
-    (spared _ _ _ _ _ _ _ _ meta_log g.met.T.MetaStore.lies.holds_own
-    (gives_now _ (g.T.MetaStore.shown engine.meta).rests _ _ _ _ (λ files. g.met.D.Disk.images_now disk files told)
-    (λ files rest at. g.met.T.MetaStore.lies.rests_hold held.1 engine.meta (D.content disk) files c.requires.ready.meta rest at) (c.requires.rests told).meta) ((persist.writes.moves told).others))
-    (spared _ _ _ _ _ _ _ _ state_log g.met.M.StateMachine.lies.holds_own
-    (gives_now _ (AtRest (g.M.StateMachine.shown engine.state) (g.M.StateMachine.map engine.state)) _ _ _ _ (λ files. g.met.D.Disk.images_now disk files told)
-    (λ files rest at. rest_hold g.met.M.StateMachine.lies held.2 engine.state (g.M.StateMachine.map engine.state) (D.content disk) files c.requires.ready.state rest at) (c.requires.rests told).state) ((persist.writes.moves told).others)))
+pub returns-in_err-persist_entries-clause-makes : goal.returns-in_err-persist_entries-clause-makes
+returns-in_err-persist_entries-clause-makes g c =
+    let writes = c.in_err-persist_entries.ensures.writes in
+    record {
+      goes_on = writes.goes_on;
+      snapshot = λ told. spares_by _ _ _ _ _ _ _ snapshot_log ((writes.moves told).spares) ((writes.moves told).others);
+      moves = λ told held.
+          let D = g.D.Disk in
+          let engine = c.args.engine.now in
+          let disk = c.args.disk.now in
+          let persist = c.persist_entries.ensures in
+          let h = (g.T.MetaStore.shown engine.meta).value in
+          let s = g.M.StateMachine.map engine.state in
+          let next = next_index s _ _ _ c.args.command c.of.result c.of.ensures (ap (λ i. i.index) c.last_applied-index.ensures) in
+          let same = applied_next h s engine.running _ _ _ c.args.time c.args.command c.of.result c.of.ensures (ap (λ i. i.index) c.last_applied-index.ensures) c.current_term-term.ensures c.requires.no_ttl in
+          subst (λ d. OldOrNew (λ files. joined (g.G.LogStore.holds.of files) (g.T.MetaStore.holds.of files) (g.M.StateMachine.holds.of files)) (D.images c.persist_entries.new.disk) (D.moment disk) (D.moment c.persist_entries.new.disk) (durable_of h s) d) same
+          (log_moves g.G.LogStore.holds.of g.T.MetaStore.holds.of g.M.StateMachine.holds.of _ _ _ _ _ _ _ _ _
+          (durable_is (g.G.LogStore.shown engine.log).value h s c.requires.ready.caught_up)
+          (logged_is (g.G.LogStore.shown engine.log).value s c.of.result c.requires.ready.caught_up next h)
+          (old_or_new held.0 (persist.writes.moves told))
+          (spared _ _ _ _ _ _ _ _ meta_log g.met.T.MetaStore.lies.holds_own
+          (gives_now _ (g.T.MetaStore.shown engine.meta).rests _ _ _ _ (λ files. g.met.D.Disk.images_now disk files told)
+          (λ files rest at. g.met.T.MetaStore.lies.rests_hold held.1 engine.meta (D.content disk) files c.requires.ready.meta rest at) (c.requires.rests told).meta) ((persist.writes.moves told).others))
+          (spared _ _ _ _ _ _ _ _ state_log g.met.M.StateMachine.lies.holds_own
+          (gives_now _ (AtRest (g.M.StateMachine.shown engine.state) (g.M.StateMachine.map engine.state)) _ _ _ _ (λ files. g.met.D.Disk.images_now disk files told)
+          (λ files rest at. rest_hold g.met.M.StateMachine.lies held.2 engine.state (g.M.StateMachine.map engine.state) (D.content disk) files c.requires.ready.state rest at) (c.requires.rests told).state) ((persist.writes.moves told).others)));
+      done = not_done c.from_residual.result c.in_err-persist_entries.field-0.0 _ c.from_residual.ensures.1;
+      refused = at_exit c.from_residual.result c.in_err-persist_entries.field-0.0 _ c.from_residual.ensures.1 (record {
+        cause = writes.refused.cause;
+        full = heavier _ _ _ _ c.in_err-persist_entries.field-0.0 refl (omega (arith, entry_is c.of.result _ _ _ c.args.command c.of.ensures))
+            (full_by _ _ _ _ _ _ c.in_err-persist_entries.field-0.0 (omega (arith, log_rises (Append (c.of.result ∷ [])))) writes.refused.full writes.refused.heavy);
+        left = let D = g.D.Disk in
+            let engine = c.args.engine.now in
+            let refused = c.in_err-persist_entries.ensures.writes.refused in
+            fails_or_stays _ _ c.in_err-persist_entries.field-0.0 _ _ _ refused.cause
+            (λ memory.
+            let same = untouched_only (λ lost. lost.may_be) (refused.untouched memory) in
+            inl (record {
+              same_kv = refl;
+              same_log = same.same_value;
+              same_weight = ap (λ n. n + (g.T.MetaStore.shown engine.meta).weight + (g.M.StateMachine.shown engine.state).weight) same.same_weight;
+              same_disk = same.same_disk;
+              stays_ready = λ ready. (
+                ready.0,
+                record {
+                  log = same.ready;
+                  meta = ready.1.meta;
+                  state = ready.1.state;
+                  caught_up = subst (λ l. IsCaughtUp l (g.M.StateMachine.map engine.state)) (sym same.same_value) ready.1.caught_up;
+                  plain = ready.1.plain;
+                },
+              );
+              stays_at_rest = λ told rests. record {
+                log = same.rests told;
+                meta = subst (λ d. (g.T.MetaStore.shown engine.meta).rests (D.content d)) (sym same.same_disk) rests.meta;
+                state = subst (λ d. AtRest (g.M.StateMachine.shown engine.state) (g.M.StateMachine.map engine.state) (D.content d)) (sym same.same_disk) rests.state;
+              };
+            }))
+            (λ disk. inr (inl (refused.failed disk)));
+      });
+    }
 
 -- the map's files lie as before behind the append
 pub apply_at_rest-requires-clause-rests : goal.apply_at_rest-requires-clause-rests
@@ -47,190 +90,145 @@ apply_at_rest-requires-clause-rests g c = λ then.
     let engine = c.args.engine.now in
     rest_own g.met.M.StateMachine.lies engine.state (g.M.StateMachine.map engine.state) _ _ (apart_own _ _ _ _ state_log ((persist.writes.moves told).spares)) (c.requires.rests told).state
 
-pub returns-in_err-results-clause-moves : goal.returns-in_err-results-clause-moves
-returns-in_err-results-clause-moves g c = λ told held.
-    let D = g.D.Disk in
-    let engine = c.args.engine.now in
-    let disk = c.args.disk.now in
-    let between = c.persist_entries.new.disk in
-    let persist = c.in_ok-persist_entries.ensures in
-    let apply = c.apply_at_rest.ensures in
-    let then : IsTrue (D.kind between).tells = subst (λ k. IsTrue k.tells) (sym persist.writes.goes_on.same) told in
-    let l = (g.G.LogStore.shown engine.log).value in
-    let h = (g.T.MetaStore.shown engine.meta).value in
-    let s = g.M.StateMachine.map engine.state in
-    let next = next_index s _ _ _ c.args.command c.of.result c.of.ensures (ap (λ i. i.index) c.last_applied-index.ensures) in
-    let same = applied_next h s engine.running _ _ _ c.args.time c.args.command c.of.result c.of.ensures (ap (λ i. i.index) c.last_applied-index.ensures) c.current_term-term.ensures c.requires.no_ttl in
-    let caught = c.requires.ready.caught_up in
-    let meta_rests = g.met.T.MetaStore.lies.rests_own engine.meta _ _ (apart_own _ _ _ _ meta_log ((persist.writes.moves told).spares)) (c.requires.rests told).meta in
-    subst (λ d. OldOrNew (λ files. joined (g.G.LogStore.holds.of files) (g.T.MetaStore.holds.of files) (g.M.StateMachine.holds.of files)) (D.images c.apply_at_rest.new.disk) (D.moment disk) (D.moment c.apply_at_rest.new.disk) (durable_of h s) d) same
-    (moves_then _ _ _ _ (D.moment between) _ _ _ (apply.disk.told then).past
-    (log_moves g.G.LogStore.holds.of g.T.MetaStore.holds.of g.M.StateMachine.holds.of _ _ _ _ _ _ _ _ _
-    (durable_is l h s caught) (logged_is l s c.of.result caught next h)
-    (old_or_new held.0 (persist.writes.moves told))
-    (spared _ _ _ _ _ _ _ _ meta_log g.met.T.MetaStore.lies.holds_own
-    (gives_now _ (g.T.MetaStore.shown engine.meta).rests _ _ _ _ (λ files. g.met.D.Disk.images_now disk files told)
-    (λ files rest at. g.met.T.MetaStore.lies.rests_hold held.1 engine.meta (D.content disk) files c.requires.ready.meta rest at) (c.requires.rests told).meta) ((persist.writes.moves told).others))
-    (spared _ _ _ _ _ _ _ _ state_log g.met.M.StateMachine.lies.holds_own
-    (gives_now _ (AtRest (g.M.StateMachine.shown engine.state) (g.M.StateMachine.map engine.state)) _ _ _ _ (λ files. g.met.D.Disk.images_now disk files told)
-    (λ files rest at. rest_hold g.met.M.StateMachine.lies held.2 engine.state (g.M.StateMachine.map engine.state) (D.content disk) files c.requires.ready.state rest at) (c.requires.rests told).state) ((persist.writes.moves told).others)))
-    (state_moves g.G.LogStore.holds.of g.T.MetaStore.holds.of g.M.StateMachine.holds.of _ _ _ _ _ _ _ _ _
-    (logged_is l s c.of.result caught next h) (applied_again l h s c.of.result caught next)
-    (spared _ _ _ _ _ _ _ _ log_state g.met.G.LogStore.lies.holds_own
-    (gives_now _ (g.G.LogStore.shown c.persist_entries.new.self).rests _ _ _ _ (λ files. g.met.D.Disk.images_now between files then)
-    (λ files rest at. g.met.G.LogStore.lies.rests_hold held.0 c.persist_entries.new.self (D.content between) files persist.writes.done.ready rest at ∙ ap (λ x. Some x) persist.writes.done.value) (persist.writes.done.rests told)) (apply.others then))
-    (spared _ _ _ _ _ _ _ _ meta_state g.met.T.MetaStore.lies.holds_own
-    (gives_now _ (g.T.MetaStore.shown engine.meta).rests _ _ _ _ (λ files. g.met.D.Disk.images_now between files then)
-    (λ files rest at. g.met.T.MetaStore.lies.rests_hold held.1 engine.meta (D.content between) files c.requires.ready.meta rest at) meta_rests) (apply.others then))
-    (apply.own then held.2)))
+-- the log has the entry, and the map may lack it
+pub returns-in_err-results-clause-makes : goal.returns-in_err-results-clause-makes
+returns-in_err-results-clause-makes g c =
+    let persist = c.persist_entries.ensures in
+    let cause : IfErr c.from_residual-in_err-results.result (λ e. IsRefusal (Rose (g.D.Disk.faults c.args.disk.now) (g.D.Disk.faults c.apply_at_rest.new.disk)) (g.D.Disk.kind c.args.disk.now).limit e) = search rules in
+    record {
+      goes_on = disk_twice _ _ _ _ _ _ _ persist.writes.goes_on c.apply_at_rest.ensures.disk;
+      snapshot = spares_twice _ _ _ _ _ _ _ _ _ c.persist_entries.ensures.writes.goes_on c.apply_at_rest.ensures.disk
+          (λ told. spares_by _ _ _ _ _ _ _ snapshot_log ((c.persist_entries.ensures.writes.moves told).spares) ((c.persist_entries.ensures.writes.moves told).others))
+          (λ told. spares_by _ _ _ _ _ _ _ snapshot_state (c.apply_at_rest.ensures.spares told) (c.apply_at_rest.ensures.others told));
+      moves = λ told held.
+          let D = g.D.Disk in
+          let engine = c.args.engine.now in
+          let disk = c.args.disk.now in
+          let between = c.persist_entries.new.disk in
+          let persist = c.in_ok-persist_entries.ensures in
+          let apply = c.apply_at_rest.ensures in
+          let then : IsTrue (D.kind between).tells = subst (λ k. IsTrue k.tells) (sym persist.writes.goes_on.same) told in
+          let l = (g.G.LogStore.shown engine.log).value in
+          let h = (g.T.MetaStore.shown engine.meta).value in
+          let s = g.M.StateMachine.map engine.state in
+          let next = next_index s _ _ _ c.args.command c.of.result c.of.ensures (ap (λ i. i.index) c.last_applied-index.ensures) in
+          let same = applied_next h s engine.running _ _ _ c.args.time c.args.command c.of.result c.of.ensures (ap (λ i. i.index) c.last_applied-index.ensures) c.current_term-term.ensures c.requires.no_ttl in
+          let caught = c.requires.ready.caught_up in
+          let meta_rests = g.met.T.MetaStore.lies.rests_own engine.meta _ _ (apart_own _ _ _ _ meta_log ((persist.writes.moves told).spares)) (c.requires.rests told).meta in
+          subst (λ d. OldOrNew (λ files. joined (g.G.LogStore.holds.of files) (g.T.MetaStore.holds.of files) (g.M.StateMachine.holds.of files)) (D.images c.apply_at_rest.new.disk) (D.moment disk) (D.moment c.apply_at_rest.new.disk) (durable_of h s) d) same
+          (moves_then _ _ _ _ (D.moment between) _ _ _ (apply.disk.told then).past
+          (log_moves g.G.LogStore.holds.of g.T.MetaStore.holds.of g.M.StateMachine.holds.of _ _ _ _ _ _ _ _ _
+          (durable_is l h s caught) (logged_is l s c.of.result caught next h)
+          (old_or_new held.0 (persist.writes.moves told))
+          (spared _ _ _ _ _ _ _ _ meta_log g.met.T.MetaStore.lies.holds_own
+          (gives_now _ (g.T.MetaStore.shown engine.meta).rests _ _ _ _ (λ files. g.met.D.Disk.images_now disk files told)
+          (λ files rest at. g.met.T.MetaStore.lies.rests_hold held.1 engine.meta (D.content disk) files c.requires.ready.meta rest at) (c.requires.rests told).meta) ((persist.writes.moves told).others))
+          (spared _ _ _ _ _ _ _ _ state_log g.met.M.StateMachine.lies.holds_own
+          (gives_now _ (AtRest (g.M.StateMachine.shown engine.state) (g.M.StateMachine.map engine.state)) _ _ _ _ (λ files. g.met.D.Disk.images_now disk files told)
+          (λ files rest at. rest_hold g.met.M.StateMachine.lies held.2 engine.state (g.M.StateMachine.map engine.state) (D.content disk) files c.requires.ready.state rest at) (c.requires.rests told).state) ((persist.writes.moves told).others)))
+          (state_moves g.G.LogStore.holds.of g.T.MetaStore.holds.of g.M.StateMachine.holds.of _ _ _ _ _ _ _ _ _
+          (logged_is l s c.of.result caught next h) (applied_again l h s c.of.result caught next)
+          (spared _ _ _ _ _ _ _ _ log_state g.met.G.LogStore.lies.holds_own
+          (gives_now _ (g.G.LogStore.shown c.persist_entries.new.self).rests _ _ _ _ (λ files. g.met.D.Disk.images_now between files then)
+          (λ files rest at. g.met.G.LogStore.lies.rests_hold held.0 c.persist_entries.new.self (D.content between) files persist.writes.done.ready rest at ∙ ap (λ x. Some x) persist.writes.done.value) (persist.writes.done.rests told)) (apply.others then))
+          (spared _ _ _ _ _ _ _ _ meta_state g.met.T.MetaStore.lies.holds_own
+          (gives_now _ (g.T.MetaStore.shown engine.meta).rests _ _ _ _ (λ files. g.met.D.Disk.images_now between files then)
+          (λ files rest at. g.met.T.MetaStore.lies.rests_hold held.1 engine.meta (D.content between) files c.requires.ready.meta rest at) meta_rests) (apply.others then))
+          (apply.own then held.2)));
+      done = not_done c.from_residual-in_err-results.result c.in_err-results.field-0.0 _ c.from_residual-in_err-results.ensures.1;
+      refused = if_err_three c.from_residual-in_err-results.result _ _ _ _ (λ e cause full left. record { cause = cause; full = full; left = left }) cause
+          (heavier_out c.from_residual-in_err-results.result c.in_err-results.field-0.0 _ _ _ _ c.from_residual-in_err-results.ensures.1
+          (ap (λ (k : Kind). k.limit) c.persist_entries.ensures.writes.goes_on.same)
+          (omega (arith, entry_is c.of.result _ _ _ c.args.command c.of.ensures)) c.in_err-results.ensures.full)
+          (let engine = c.args.engine.now in
+          let l = (g.G.LogStore.shown engine.log).value in
+          let is = next_is (g.T.MetaStore.shown engine.meta).value (g.M.StateMachine.map engine.state) engine.running _ _ c.args.time c.args.command c.of.result c.of.ensures (ap (λ i. i.index) c.last_applied-index.ensures) c.current_term-term.ensures in
+          at_exit c.from_residual-in_err-results.result c.in_err-results.field-0.0 _ c.from_residual-in_err-results.ensures.1
+          (fails_behind c.in_err-results.field-0.0 _ _ _ (inl refl)
+          (record { some = omega arith; joined = c.in_ok-persist_entries.ensures.writes.done.value ∙ ap (λ e. changed l (Append (e ∷ []))) is })));
+    }
 
-pub returns-clause-moves : goal.returns-clause-moves
-returns-clause-moves g c = λ told held.
-    let D = g.D.Disk in
-    let engine = c.args.engine.now in
-    let disk = c.args.disk.now in
-    let between = c.persist_entries.new.disk in
-    let persist = c.in_ok-persist_entries.ensures in
-    let apply = c.apply_at_rest.ensures in
-    let then : IsTrue (D.kind between).tells = subst (λ k. IsTrue k.tells) (sym persist.writes.goes_on.same) told in
-    let l = (g.G.LogStore.shown engine.log).value in
-    let h = (g.T.MetaStore.shown engine.meta).value in
-    let s = g.M.StateMachine.map engine.state in
-    let next = next_index s _ _ _ c.args.command c.of.result c.of.ensures (ap (λ i. i.index) c.last_applied-index.ensures) in
-    let same = applied_next h s engine.running _ _ _ c.args.time c.args.command c.of.result c.of.ensures (ap (λ i. i.index) c.last_applied-index.ensures) c.current_term-term.ensures c.requires.no_ttl in
-    let caught = c.requires.ready.caught_up in
-    let meta_rests = g.met.T.MetaStore.lies.rests_own engine.meta _ _ (apart_own _ _ _ _ meta_log ((persist.writes.moves told).spares)) (c.requires.rests told).meta in
-    subst (λ d. OldOrNew (λ files. joined (g.G.LogStore.holds.of files) (g.T.MetaStore.holds.of files) (g.M.StateMachine.holds.of files)) (D.images c.apply_at_rest.new.disk) (D.moment disk) (D.moment c.apply_at_rest.new.disk) (durable_of h s) d) same
-    (moves_then _ _ _ _ (D.moment between) _ _ _ (apply.disk.told then).past
-    (log_moves g.G.LogStore.holds.of g.T.MetaStore.holds.of g.M.StateMachine.holds.of _ _ _ _ _ _ _ _ _
-    (durable_is l h s caught) (logged_is l s c.of.result caught next h)
-    (old_or_new held.0 (persist.writes.moves told))
-    (spared _ _ _ _ _ _ _ _ meta_log g.met.T.MetaStore.lies.holds_own
-    (gives_now _ (g.T.MetaStore.shown engine.meta).rests _ _ _ _ (λ files. g.met.D.Disk.images_now disk files told)
-    (λ files rest at. g.met.T.MetaStore.lies.rests_hold held.1 engine.meta (D.content disk) files c.requires.ready.meta rest at) (c.requires.rests told).meta) ((persist.writes.moves told).others))
-    (spared _ _ _ _ _ _ _ _ state_log g.met.M.StateMachine.lies.holds_own
-    (gives_now _ (AtRest (g.M.StateMachine.shown engine.state) (g.M.StateMachine.map engine.state)) _ _ _ _ (λ files. g.met.D.Disk.images_now disk files told)
-    (λ files rest at. rest_hold g.met.M.StateMachine.lies held.2 engine.state (g.M.StateMachine.map engine.state) (D.content disk) files c.requires.ready.state rest at) (c.requires.rests told).state) ((persist.writes.moves told).others)))
-    (state_moves g.G.LogStore.holds.of g.T.MetaStore.holds.of g.M.StateMachine.holds.of _ _ _ _ _ _ _ _ _
-    (logged_is l s c.of.result caught next h) (applied_again l h s c.of.result caught next)
-    (spared _ _ _ _ _ _ _ _ log_state g.met.G.LogStore.lies.holds_own
-    (gives_now _ (g.G.LogStore.shown c.persist_entries.new.self).rests _ _ _ _ (λ files. g.met.D.Disk.images_now between files then)
-    (λ files rest at. g.met.G.LogStore.lies.rests_hold held.0 c.persist_entries.new.self (D.content between) files persist.writes.done.ready rest at ∙ ap (λ x. Some x) persist.writes.done.value) (persist.writes.done.rests told)) (apply.others then))
-    (spared _ _ _ _ _ _ _ _ meta_state g.met.T.MetaStore.lies.holds_own
-    (gives_now _ (g.T.MetaStore.shown engine.meta).rests _ _ _ _ (λ files. g.met.D.Disk.images_now between files then)
-    (λ files rest at. g.met.T.MetaStore.lies.rests_hold held.1 engine.meta (D.content between) files c.requires.ready.meta rest at) meta_rests) (apply.others then))
-    (apply.own then held.2)))
+pub returns-clause-makes : goal.returns-clause-makes
+returns-clause-makes g c =
+    record {
+      goes_on = disk_twice _ _ _ _ _ _ _ c.persist_entries.ensures.writes.goes_on c.apply_at_rest.ensures.disk;
+      snapshot = spares_twice _ _ _ _ _ _ _ _ _ c.persist_entries.ensures.writes.goes_on c.apply_at_rest.ensures.disk
+          (λ told. spares_by _ _ _ _ _ _ _ snapshot_log ((c.persist_entries.ensures.writes.moves told).spares) ((c.persist_entries.ensures.writes.moves told).others))
+          (λ told. spares_by _ _ _ _ _ _ _ snapshot_state (c.apply_at_rest.ensures.spares told) (c.apply_at_rest.ensures.others told));
+      moves = λ told held.
+          let D = g.D.Disk in
+          let engine = c.args.engine.now in
+          let disk = c.args.disk.now in
+          let between = c.persist_entries.new.disk in
+          let persist = c.in_ok-persist_entries.ensures in
+          let apply = c.apply_at_rest.ensures in
+          let then : IsTrue (D.kind between).tells = subst (λ k. IsTrue k.tells) (sym persist.writes.goes_on.same) told in
+          let l = (g.G.LogStore.shown engine.log).value in
+          let h = (g.T.MetaStore.shown engine.meta).value in
+          let s = g.M.StateMachine.map engine.state in
+          let next = next_index s _ _ _ c.args.command c.of.result c.of.ensures (ap (λ i. i.index) c.last_applied-index.ensures) in
+          let same = applied_next h s engine.running _ _ _ c.args.time c.args.command c.of.result c.of.ensures (ap (λ i. i.index) c.last_applied-index.ensures) c.current_term-term.ensures c.requires.no_ttl in
+          let caught = c.requires.ready.caught_up in
+          let meta_rests = g.met.T.MetaStore.lies.rests_own engine.meta _ _ (apart_own _ _ _ _ meta_log ((persist.writes.moves told).spares)) (c.requires.rests told).meta in
+          subst (λ d. OldOrNew (λ files. joined (g.G.LogStore.holds.of files) (g.T.MetaStore.holds.of files) (g.M.StateMachine.holds.of files)) (D.images c.apply_at_rest.new.disk) (D.moment disk) (D.moment c.apply_at_rest.new.disk) (durable_of h s) d) same
+          (moves_then _ _ _ _ (D.moment between) _ _ _ (apply.disk.told then).past
+          (log_moves g.G.LogStore.holds.of g.T.MetaStore.holds.of g.M.StateMachine.holds.of _ _ _ _ _ _ _ _ _
+          (durable_is l h s caught) (logged_is l s c.of.result caught next h)
+          (old_or_new held.0 (persist.writes.moves told))
+          (spared _ _ _ _ _ _ _ _ meta_log g.met.T.MetaStore.lies.holds_own
+          (gives_now _ (g.T.MetaStore.shown engine.meta).rests _ _ _ _ (λ files. g.met.D.Disk.images_now disk files told)
+          (λ files rest at. g.met.T.MetaStore.lies.rests_hold held.1 engine.meta (D.content disk) files c.requires.ready.meta rest at) (c.requires.rests told).meta) ((persist.writes.moves told).others))
+          (spared _ _ _ _ _ _ _ _ state_log g.met.M.StateMachine.lies.holds_own
+          (gives_now _ (AtRest (g.M.StateMachine.shown engine.state) (g.M.StateMachine.map engine.state)) _ _ _ _ (λ files. g.met.D.Disk.images_now disk files told)
+          (λ files rest at. rest_hold g.met.M.StateMachine.lies held.2 engine.state (g.M.StateMachine.map engine.state) (D.content disk) files c.requires.ready.state rest at) (c.requires.rests told).state) ((persist.writes.moves told).others)))
+          (state_moves g.G.LogStore.holds.of g.T.MetaStore.holds.of g.M.StateMachine.holds.of _ _ _ _ _ _ _ _ _
+          (logged_is l s c.of.result caught next h) (applied_again l h s c.of.result caught next)
+          (spared _ _ _ _ _ _ _ _ log_state g.met.G.LogStore.lies.holds_own
+          (gives_now _ (g.G.LogStore.shown c.persist_entries.new.self).rests _ _ _ _ (λ files. g.met.D.Disk.images_now between files then)
+          (λ files rest at. g.met.G.LogStore.lies.rests_hold held.0 c.persist_entries.new.self (D.content between) files persist.writes.done.ready rest at ∙ ap (λ x. Some x) persist.writes.done.value) (persist.writes.done.rests told)) (apply.others then))
+          (spared _ _ _ _ _ _ _ _ meta_state g.met.T.MetaStore.lies.holds_own
+          (gives_now _ (g.T.MetaStore.shown engine.meta).rests _ _ _ _ (λ files. g.met.D.Disk.images_now between files then)
+          (λ files rest at. g.met.T.MetaStore.lies.rests_hold held.1 engine.meta (D.content between) files c.requires.ready.meta rest at) meta_rests) (apply.others then))
+          (apply.own then held.2)));
+      done = record {
+        durable =
+            let engine = c.args.engine.now in
+            let h = (g.T.MetaStore.shown engine.meta).value in
+            let s = g.M.StateMachine.map engine.state in
+            ap (durable_of h) c.in_ok-results.ensures.applied ∙ applied_is h s c.of.result
+            ∙ applied_next h s engine.running _ _ _ c.args.time c.args.command c.of.result c.of.ensures (ap (λ i. i.index) c.last_applied-index.ensures) c.current_term-term.ensures c.requires.no_ttl;
+        logged =
+            let engine = c.args.engine.now in
+            let l = (g.G.LogStore.shown engine.log).value in
+            let is = next_is (g.T.MetaStore.shown engine.meta).value (g.M.StateMachine.map engine.state) engine.running _ _ c.args.time c.args.command c.of.result c.of.ensures (ap (λ i. i.index) c.last_applied-index.ensures) c.current_term-term.ensures in
+            c.in_ok-persist_entries.ensures.writes.done.value ∙ ap (λ e. changed l (Append (e ∷ []))) is;
+        weight = omega (arith, c.in_ok-persist_entries.ensures.writes.done.weight, c.in_ok-results.ensures.weight, entry_is c.of.result _ _ _ c.args.command c.of.ensures);
+        rests = λ told.
+            let persist = c.in_ok-persist_entries.ensures in
+            let apply = c.in_ok-results.ensures in
+            let then : IsTrue (g.D.Disk.kind c.persist_entries.new.disk).tells = subst (λ k. IsTrue k.tells) (sym persist.writes.goes_on.same) told in
+            let engine = c.args.engine.now in
+            record {
+              log = g.met.G.LogStore.lies.rests_own c.persist_entries.new.self _ _ (apart_own _ _ _ _ log_state (apply.spares then)) (persist.writes.done.rests told);
+              meta = g.met.T.MetaStore.lies.rests_own engine.meta _ _ (apart_own _ _ _ _ meta_state (apply.spares then))
+                  (g.met.T.MetaStore.lies.rests_own engine.meta _ _ (apart_own _ _ _ _ meta_log ((persist.writes.moves told).spares)) (c.requires.rests told).meta);
+              state = apply.rests then;
+            };
+      };
+      refused = tt;
+    }
 
 pub returns-clause-ready : goal.returns-clause-ready
 returns-clause-ready g c =
     let engine = c.args.engine.now in
     let l = (g.G.LogStore.shown engine.log).value in
-    let s = g.M.StateMachine.map engine.state in
-    record {
-      log = c.in_ok-persist_entries.ensures.writes.done.ready;
-      meta = c.requires.ready.meta;
-      state = c.in_ok-results.ensures.ready;
-      caught_up = caught_up_now l s c.of.result _ _ c.requires.ready.caught_up (next_index s _ _ _ c.args.command c.of.result c.of.ensures (ap (λ i. i.index) c.last_applied-index.ensures)) c.in_ok-persist_entries.ensures.writes.done.value c.in_ok-results.ensures.applied;
-      plain = c.requires.ready.plain;
-    }
-
-pub returns-clause-rests : goal.returns-clause-rests
-returns-clause-rests g c = λ told.
-    let persist = c.in_ok-persist_entries.ensures in
-    let apply = c.in_ok-results.ensures in
-    let then : IsTrue (g.D.Disk.kind c.persist_entries.new.disk).tells = subst (λ k. IsTrue k.tells) (sym persist.writes.goes_on.same) told in
-    let engine = c.args.engine.now in
-    record {
-      log = g.met.G.LogStore.lies.rests_own c.persist_entries.new.self _ _ (apart_own _ _ _ _ log_state (apply.spares then)) (persist.writes.done.rests told);
-      meta = g.met.T.MetaStore.lies.rests_own engine.meta _ _ (apart_own _ _ _ _ meta_state (apply.spares then))
-          (g.met.T.MetaStore.lies.rests_own engine.meta _ _ (apart_own _ _ _ _ meta_log ((persist.writes.moves told).spares)) (c.requires.rests told).meta);
-      state = apply.rests then;
-    }
-
--- the log is handed the entry, and then the map
-pub returns-in_err-persist_entries-clause-full : goal.returns-in_err-persist_entries-clause-full
-returns-in_err-persist_entries-clause-full g c = heavier_out c.from_residual.result c.in_err-persist_entries.field-0.0 _ _ _ _ c.from_residual.ensures.1 refl
-    (omega (arith, entry_is c.of.result _ _ _ c.args.command c.of.ensures)) (full_by _ _ _ _ _ _ c.in_err-persist_entries.field-0.0 (omega (arith, log_rises (Append (c.of.result ∷ [])))) c.in_err-persist_entries.ensures.writes.refused.full c.in_err-persist_entries.ensures.writes.refused.heavy)
-
-pub returns-in_err-results-clause-full : goal.returns-in_err-results-clause-full
-returns-in_err-results-clause-full g c = heavier_out c.from_residual-in_err-results.result c.in_err-results.field-0.0 _ _ _ _ c.from_residual-in_err-results.ensures.1
-    (ap (λ (k : Kind). k.limit) c.persist_entries.ensures.writes.goes_on.same)
-    (omega (arith, entry_is c.of.result _ _ _ c.args.command c.of.ensures)) c.in_err-results.ensures.full
-
-pub returns-clause-weight : goal.returns-clause-weight
-returns-clause-weight g c = omega (arith, c.in_ok-persist_entries.ensures.writes.done.weight, c.in_ok-results.ensures.weight, entry_is c.of.result _ _ _ c.args.command c.of.ensures)
-
--- neither writes in the snapshot's files
-pub returns-in_err-persist_entries-clause-snapshot : goal.returns-in_err-persist_entries-clause-snapshot
-returns-in_err-persist_entries-clause-snapshot g c = λ told. spares_by _ _ _ _ _ _ _ snapshot_log ((c.persist_entries.ensures.writes.moves told).spares) ((c.persist_entries.ensures.writes.moves told).others)
-
-pub returns-in_err-results-clause-snapshot : goal.returns-in_err-results-clause-snapshot
-returns-in_err-results-clause-snapshot g c = spares_twice _ _ _ _ _ _ _ _ _ c.persist_entries.ensures.writes.goes_on c.apply_at_rest.ensures.disk
-    (λ told. spares_by _ _ _ _ _ _ _ snapshot_log ((c.persist_entries.ensures.writes.moves told).spares) ((c.persist_entries.ensures.writes.moves told).others))
-    (λ told. spares_by _ _ _ _ _ _ _ snapshot_state (c.apply_at_rest.ensures.spares told) (c.apply_at_rest.ensures.others told))
-
-pub returns-clause-snapshot : goal.returns-clause-snapshot
-returns-clause-snapshot g c = spares_twice _ _ _ _ _ _ _ _ _ c.persist_entries.ensures.writes.goes_on c.apply_at_rest.ensures.disk
-    (λ told. spares_by _ _ _ _ _ _ _ snapshot_log ((c.persist_entries.ensures.writes.moves told).spares) ((c.persist_entries.ensures.writes.moves told).others))
-    (λ told. spares_by _ _ _ _ _ _ _ snapshot_state (c.apply_at_rest.ensures.spares told) (c.apply_at_rest.ensures.others told))
-
--- and onto the map
-pub returns-clause-state : goal.returns-clause-state
-returns-clause-state g c =
-    let engine = c.args.engine.now in
-    let h = (g.T.MetaStore.shown engine.meta).value in
-    let s = g.M.StateMachine.map engine.state in
-    ap (durable_of h) c.in_ok-results.ensures.applied ∙ applied_is h s c.of.result
-    ∙ applied_next h s engine.running _ _ _ c.args.time c.args.command c.of.result c.of.ensures (ap (λ i. i.index) c.last_applied-index.ensures) c.current_term-term.ensures c.requires.no_ttl
-
--- the entry that was made is in the log
-pub returns-clause-logged : goal.returns-clause-logged
-returns-clause-logged g c =
-    let engine = c.args.engine.now in
-    let l = (g.G.LogStore.shown engine.log).value in
-    let is = next_is (g.T.MetaStore.shown engine.meta).value (g.M.StateMachine.map engine.state) engine.running _ _ c.args.time c.args.command c.of.result c.of.ensures (ap (λ i. i.index) c.last_applied-index.ensures) c.current_term-term.ensures in
-    c.in_ok-persist_entries.ensures.writes.done.value ∙ ap (λ e. changed l (Append (e ∷ []))) is
-
--- ---- what a refusal leaves
-
-pub returns-in_err-persist_entries-clause-left : goal.returns-in_err-persist_entries-clause-left
-returns-in_err-persist_entries-clause-left g c =
-    let D = g.D.Disk in
-    let engine = c.args.engine.now in
-    let refused = c.in_err-persist_entries.ensures.writes.refused in
-    at_exit c.from_residual.result c.in_err-persist_entries.field-0.0 _ c.from_residual.ensures.1
-    (fails_or_stays _ _ c.in_err-persist_entries.field-0.0 _ _ _ refused.cause
-    (λ memory.
-    let same = untouched_only (λ lost. lost.may_be) (refused.untouched memory) in
-    inl (record {
-      same_kv = refl;
-      same_log = same.same_value;
-      same_weight = ap (λ n. n + (g.T.MetaStore.shown engine.meta).weight + (g.M.StateMachine.shown engine.state).weight) same.same_weight;
-      same_disk = same.same_disk;
-      stays_ready = λ ready. (
-        ready.0,
-        record {
-          log = same.ready;
-          meta = ready.1.meta;
-          state = ready.1.state;
-          caught_up = subst (λ l. IsCaughtUp l (g.M.StateMachine.map engine.state)) (sym same.same_value) ready.1.caught_up;
-          plain = ready.1.plain;
-        },
-      );
-      stays_at_rest = λ told rests. record {
-        log = same.rests told;
-        meta = subst (λ d. (g.T.MetaStore.shown engine.meta).rests (D.content d)) (sym same.same_disk) rests.meta;
-        state = subst (λ d. AtRest (g.M.StateMachine.shown engine.state) (g.M.StateMachine.map engine.state) (D.content d)) (sym same.same_disk) rests.state;
-      };
-    }))
-    (λ disk. inr (inl (refused.failed disk))))
-
--- the log has the entry, and the map may lack it
-pub returns-in_err-results-clause-left : goal.returns-in_err-results-clause-left
-returns-in_err-results-clause-left g c =
-    let engine = c.args.engine.now in
-    let l = (g.G.LogStore.shown engine.log).value in
-    let is = next_is (g.T.MetaStore.shown engine.meta).value (g.M.StateMachine.map engine.state) engine.running _ _ c.args.time c.args.command c.of.result c.of.ensures (ap (λ i. i.index) c.last_applied-index.ensures) c.current_term-term.ensures in
-    at_exit c.from_residual-in_err-results.result c.in_err-results.field-0.0 _ c.from_residual-in_err-results.ensures.1
-    (fails_behind c.in_err-results.field-0.0 _ _ _ (inl refl)
-    (record { some = omega arith; joined = c.in_ok-persist_entries.ensures.writes.done.value ∙ ap (λ e. changed l (Append (e ∷ []))) is }))
+    let s = g.M.StateMachine.map engine.state in (
+      refl,
+      record {
+        log = c.in_ok-persist_entries.ensures.writes.done.ready;
+        meta = c.requires.ready.meta;
+        state = c.in_ok-results.ensures.ready;
+        caught_up = caught_up_now l s c.of.result _ _ c.requires.ready.caught_up (next_index s _ _ _ c.args.command c.of.result c.of.ensures (ap (λ i. i.index) c.last_applied-index.ensures)) c.in_ok-persist_entries.ensures.writes.done.value c.in_ok-results.ensures.applied;
+        plain = c.requires.ready.plain;
+      },
+    )

@@ -1,72 +1,69 @@
 use Rattle.std.proofs.Common.{◌+◌, Some, inl, inr, refl, sym, ap, subst, ◌∙◌, arith}
-use Rattle.std.proofs.lemmas.Result.{on_ok_weaker, IfErr-weaker}
+use Rattle.std.proofs.lemmas.Result.{on_ok_weaker}
 use Rattle.den_model.specs.MapState.{part_of}
 use Rattle.den_journal.proofs.Moving.{old_or_new}
 use Rattle.den_core.specs.Joined.{durable_is}
 use Rattle.den_core.proofs.Spared.{gives_now, spared, apart_own, meta_moves, log_meta, state_meta, snapshot_meta, spares_by}
 use Rattle.den_core.proofs.Weighing.{full_by, hard_state_length, heavier}
-use Rattle.den_core.specs.Parts.{kv_of}
+use Rattle.den_core.specs.Parts.{durable_of, kv_of}
 use Rattle.den_core.proofs.Refusing.{fails_or_stays, if_err_weaker, untouched_only}
 use Rattle.den_core.proofs.engine.raise.Goals as goal
 use Rattle.den_state.specs.Machine.{AtRest, rest_hold, rest_own}
 
 -- the hard state was saved, or was not
-pub returns-clause-moves : goal.returns-clause-moves
-returns-clause-moves g c = λ told held.
+pub returns-clause-makes : goal.returns-clause-makes
+returns-clause-makes g c =
     let D = g.D.Disk in
     let engine = c.args.engine.now in
-    let disk = c.args.disk.now in
-    let save = c.save_hard_state.ensures in
-    let is = durable_is _ (g.T.MetaStore.shown engine.meta).value _ c.requires.ready.caught_up in
-    meta_moves g.G.LogStore.holds.of g.T.MetaStore.holds.of g.M.StateMachine.holds.of _ _ _ _ _ _ _ _ _ is
-    (durable_is _ _ _ c.requires.ready.caught_up ∙ ap (λ n. Some (part_of (g.M.StateMachine.map engine.state) (n + 1))) c.current_term-term.ensures)
-    (spared _ _ _ _ _ _ _ _ log_meta g.met.G.LogStore.lies.holds_own
-    (gives_now _ (g.G.LogStore.shown engine.log).rests _ _ _ _ (λ files. g.met.D.Disk.images_now disk files told)
-    (λ files rest at. g.met.G.LogStore.lies.rests_hold held.0 engine.log (D.content disk) files c.requires.ready.log rest at) (c.requires.rests told).log) ((save.writes.moves told).others))
-    (old_or_new held.1 (save.writes.moves told))
-    (spared _ _ _ _ _ _ _ _ state_meta g.met.M.StateMachine.lies.holds_own
-    (gives_now _ (AtRest (g.M.StateMachine.shown engine.state) (g.M.StateMachine.map engine.state)) _ _ _ _ (λ files. g.met.D.Disk.images_now disk files told)
-    (λ files rest at. rest_hold g.met.M.StateMachine.lies held.2 engine.state (g.M.StateMachine.map engine.state) (D.content disk) files c.requires.ready.state rest at) (c.requires.rests told).state) ((save.writes.moves told).others))
-
-pub returns-clause-rests : goal.returns-clause-rests
-returns-clause-rests g c = on_ok_weaker c.save_hard_state.result (λ done told.
-    let engine = c.args.engine.now in
-    let save = c.save_hard_state.ensures in
+    let writes = c.save_hard_state.ensures.writes in
     record {
-      log = g.met.G.LogStore.lies.rests_own engine.log _ _ (apart_own _ _ _ _ log_meta ((save.writes.moves told).spares)) (c.requires.rests told).log;
-      meta = done.rests told;
-      state = rest_own g.met.M.StateMachine.lies engine.state (g.M.StateMachine.map engine.state) _ _ (apart_own _ _ _ _ state_meta ((save.writes.moves told).spares)) (c.requires.rests told).state;
-    }) c.save_hard_state.ensures.writes.done
-
--- it is handed the new hard state
-pub returns-clause-weight : goal.returns-clause-weight
-returns-clause-weight g c = on_ok_weaker c.save_hard_state.result (λ done. omega (arith, done.weight, hard_state_length (record { current_term = c.current_term-term.result + 1; voted_for = c.vote.result }))) c.save_hard_state.ensures.writes.done
-
-pub returns-clause-full : goal.returns-clause-full
-returns-clause-full g c = IfErr-weaker c.save_hard_state.result _ _ (λ e refused. heavier _ _ _ _ e refl (omega (arith, hard_state_length (record { current_term = c.current_term-term.result + 1; voted_for = c.vote.result }))) (full_by _ _ _ _ _ _ e (omega arith) refused.full refused.heavy)) c.save_hard_state.ensures.writes.refused
-
-pub returns-clause-snapshot : goal.returns-clause-snapshot
-returns-clause-snapshot g c = λ told. spares_by _ _ _ _ _ _ _ snapshot_meta ((c.save_hard_state.ensures.writes.moves told).spares) ((c.save_hard_state.ensures.writes.moves told).others)
-
-pub returns-clause-left : goal.returns-clause-left
-returns-clause-left g c = if_err_weaker c.save_hard_state.result _ _
-    (λ e refused.
-    let D = g.D.Disk in
-    let engine = c.args.engine.now in
-    fails_or_stays _ _ e _ _ _ refused.cause
-    (λ memory.
-    let same = untouched_only (λ lost. lost.may_be) (refused.untouched memory) in
-    inl (record {
-      same_kv = ap (λ h. kv_of h (g.M.StateMachine.map engine.state) engine.running) same.same_value;
-      same_log = refl;
-      same_weight = ap (λ n. (g.G.LogStore.shown engine.log).weight + n + (g.M.StateMachine.shown engine.state).weight) same.same_weight;
-      same_disk = same.same_disk;
-      stays_ready = λ ready. (ready.0, record { log = ready.1.log; meta = same.ready; state = ready.1.state; caught_up = ready.1.caught_up; plain = ready.1.plain });
-      stays_at_rest = λ told rests. record {
-        log = subst (λ d. (g.G.LogStore.shown engine.log).rests (D.content d)) (sym same.same_disk) rests.log;
-        meta = same.rests told;
-        state = subst (λ d. AtRest (g.M.StateMachine.shown engine.state) (g.M.StateMachine.map engine.state) (D.content d)) (sym same.same_disk) rests.state;
-      };
-    }))
-    (λ disk. inr (inr (inl (refused.failed disk)))))
-    c.save_hard_state.ensures.writes.refused
+      goes_on = writes.goes_on;
+      snapshot = λ told. spares_by _ _ _ _ _ _ _ snapshot_meta ((writes.moves told).spares) ((writes.moves told).others);
+      moves = λ told held.
+          let D = g.D.Disk in
+          let engine = c.args.engine.now in
+          let disk = c.args.disk.now in
+          let save = c.save_hard_state.ensures in
+          let is = durable_is _ (g.T.MetaStore.shown engine.meta).value _ c.requires.ready.caught_up in
+          meta_moves g.G.LogStore.holds.of g.T.MetaStore.holds.of g.M.StateMachine.holds.of _ _ _ _ _ _ _ _ _ is
+          (durable_is _ _ _ c.requires.ready.caught_up ∙ ap (λ n. Some (part_of (g.M.StateMachine.map engine.state) (n + 1))) c.current_term-term.ensures)
+          (spared _ _ _ _ _ _ _ _ log_meta g.met.G.LogStore.lies.holds_own
+          (gives_now _ (g.G.LogStore.shown engine.log).rests _ _ _ _ (λ files. g.met.D.Disk.images_now disk files told)
+          (λ files rest at. g.met.G.LogStore.lies.rests_hold held.0 engine.log (D.content disk) files c.requires.ready.log rest at) (c.requires.rests told).log) ((save.writes.moves told).others))
+          (old_or_new held.1 (save.writes.moves told))
+          (spared _ _ _ _ _ _ _ _ state_meta g.met.M.StateMachine.lies.holds_own
+          (gives_now _ (AtRest (g.M.StateMachine.shown engine.state) (g.M.StateMachine.map engine.state)) _ _ _ _ (λ files. g.met.D.Disk.images_now disk files told)
+          (λ files rest at. rest_hold g.met.M.StateMachine.lies held.2 engine.state (g.M.StateMachine.map engine.state) (D.content disk) files c.requires.ready.state rest at) (c.requires.rests told).state) ((save.writes.moves told).others));
+      done = on_ok_weaker c.save_hard_state.result (λ done. record {
+        durable = ap (λ h. durable_of h (g.M.StateMachine.map engine.state)) done.value ∙ ap (λ n. part_of (g.M.StateMachine.map engine.state) (n + 1)) c.current_term-term.ensures;
+        logged = refl;
+        weight = omega (arith, done.weight, hard_state_length (record { current_term = c.current_term-term.result + 1; voted_for = c.vote.result }));
+        rests = λ told. let engine = c.args.engine.now in
+            let save = c.save_hard_state.ensures in
+            record {
+              log = g.met.G.LogStore.lies.rests_own engine.log _ _ (apart_own _ _ _ _ log_meta ((save.writes.moves told).spares)) (c.requires.rests told).log;
+              meta = done.rests told;
+              state = rest_own g.met.M.StateMachine.lies engine.state (g.M.StateMachine.map engine.state) _ _ (apart_own _ _ _ _ state_meta ((save.writes.moves told).spares)) (c.requires.rests told).state;
+            };
+      }) writes.done;
+      refused = if_err_weaker c.save_hard_state.result _ _ (λ e refused. record {
+        cause = refused.cause;
+        full = heavier _ _ _ _ e refl (omega (arith, hard_state_length (record { current_term = c.current_term-term.result + 1; voted_for = c.vote.result }))) (full_by _ _ _ _ _ _ e (omega arith) refused.full refused.heavy);
+        left = fails_or_stays _ _ e _ _ _ refused.cause
+            (λ memory.
+            let same = untouched_only (λ lost. lost.may_be) (refused.untouched memory) in
+            inl (record {
+              same_kv = ap (λ h. kv_of h (g.M.StateMachine.map engine.state) engine.running) same.same_value;
+              same_log = refl;
+              same_weight = ap (λ n. (g.G.LogStore.shown engine.log).weight + n + (g.M.StateMachine.shown engine.state).weight) same.same_weight;
+              same_disk = same.same_disk;
+              stays_ready = λ ready. (ready.0, record { log = ready.1.log; meta = same.ready; state = ready.1.state; caught_up = ready.1.caught_up; plain = ready.1.plain });
+              stays_at_rest = λ told rests. record {
+                log = subst (λ d. (g.G.LogStore.shown engine.log).rests (D.content d)) (sym same.same_disk) rests.log;
+                meta = same.rests told;
+                state = subst (λ d. AtRest (g.M.StateMachine.shown engine.state) (g.M.StateMachine.map engine.state) (D.content d)) (sym same.same_disk) rests.state;
+              };
+            }))
+            (λ disk. inr (inr (inl (refused.failed disk))));
+      }) writes.refused;
+    }

@@ -1,10 +1,14 @@
-use Rattle.std.proofs.Common.{IsTrue, sym, subst}
+use Rattle.std.proofs.Common.{◌-◌, IsTrue, IfErr, rules, sym, subst}
 use Rattle.std.proofs.lemmas.Result.{on_ok_weaker}
 use Rattle.den_disk.specs.Files.{Kind}
 use Rattle.den_model.specs.Crash.{Stands, Tells}
 use Rattle.den_model.specs.Frames.{frames}
-use Rattle.den_core.proofs.GoesOn.{on_ok_three}
+use Rattle.den_core.proofs.GoesOn.{disk_twice, on_ok_three}
 use Rattle.den_core.proofs.Beginning.{opens_only, runs, runs_answered, runs_whole}
+use Rattle.den_core.specs.Full.{IsFullBy}
+use Rattle.den_core.specs.Refusals.{IsServeRefusal}
+use Rattle.den_core.specs.Weights.{run_weight}
+use Rattle.den_disk.specs.Goes.{Rose}
 use Rattle.den_core.proofs.Spared.{spares_twice}
 use Rattle.den_core.proofs.Stretch.{stands_now}
 use Rattle.den_core.proofs.server.run_from.Goals as goal
@@ -12,28 +16,28 @@ use Rattle.den_core.proofs.server.run_from.Goals as goal
 -- the opening was begun
 pub returns-in_err-open_at-clause-any_moment : goal.returns-in_err-open_at-clause-any_moment
 returns-in_err-open_at-clause-any_moment g c = λ told says.
-    opens_only g.S.Stepper.holds _ (frames c.args.limit (g.L.Link.left c.args.link.now)) _ _ _ _ _ c.max-time.ensures (c.open_at.ensures.survives told.disk_tells says)
+    opens_only g.S.Stepper.says.holds _ (frames c.args.limit (g.L.Link.left c.args.link.now)) _ _ _ _ _ c.max-time.ensures (c.open_at.ensures.makes.survives told.disk_tells says)
     (g.C.Clock.readings c.args.clock.now) (g.C.Clock.readings c.now.new.self) (g.L.Link.sent c.args.link.now) (c.now.ensures.told told.clock_tells)
 
 pub returns-clause-any_moment : goal.returns-clause-any_moment
 returns-clause-any_moment g c = λ told says.
     let opening = c.in_ok-open_at.ensures in
     let here : Tells (g.D.Disk.kind c.open_at.new.disk).tells (g.L.Link.tells c.args.link.now) (g.C.Clock.tells c.serve.new.clock) =
-    record { disk_tells = subst (λ (k : Kind). IsTrue k.tells) (sym opening.disk.same) told.disk_tells; link_tells = told.link_tells; clock_tells = told.clock_tells } in
-    let on = c.serve.ensures.disk.told here.disk_tells in
-    runs g.S.Stepper.holds _ (frames c.args.limit (g.L.Link.left c.args.link.now)) _ _ _ _ _ c.max-time.ensures (opening.survives told.disk_tells says)
-    _ _ _ _ _ _ _ (opening.disk.told told.disk_tells).later on.later on.past
-    (c.now.ensures.told (c.serve.ensures.clock.told told.clock_tells)) (c.serve.ensures.clock.grows told.clock_tells) opening.state
+    record { disk_tells = subst (λ (k : Kind). IsTrue k.tells) (sym opening.makes.goes_on.same) told.disk_tells; link_tells = told.link_tells; clock_tells = told.clock_tells } in
+    let on = c.serve.ensures.serves.goes_on.told here.disk_tells in
+    runs g.S.Stepper.says.holds _ (frames c.args.limit (g.L.Link.left c.args.link.now)) _ _ _ _ _ c.max-time.ensures (opening.makes.survives told.disk_tells says)
+    _ _ _ _ _ _ _ (opening.makes.goes_on.told told.disk_tells).later on.later on.past
+    (c.now.ensures.told (c.serve.ensures.clock.told told.clock_tells)) (c.serve.ensures.clock.grows told.clock_tells) opening.makes.done.state
     (c.serve.ensures.survives here says)
 
 pub returns-clause-answered : goal.returns-clause-answered
 returns-clause-answered g c = on_ok_weaker c.serve.result (λ done told.
     let opening = c.in_ok-open_at.ensures in
     let here : Tells (g.D.Disk.kind c.open_at.new.disk).tells (g.L.Link.tells c.args.link.now) (g.C.Clock.tells c.serve.new.clock) =
-    record { disk_tells = subst (λ (k : Kind). IsTrue k.tells) (sym opening.disk.same) told.disk_tells; link_tells = told.link_tells; clock_tells = told.clock_tells } in
+    record { disk_tells = subst (λ (k : Kind). IsTrue k.tells) (sym opening.makes.goes_on.same) told.disk_tells; link_tells = told.link_tells; clock_tells = told.clock_tells } in
     runs_answered _ (frames c.args.limit (g.L.Link.left c.args.link.now)) _ _ c.max-time.ensures _ _ _ _
-    (c.now.ensures.told (c.serve.ensures.clock.told told.clock_tells)) (c.serve.ensures.clock.grows told.clock_tells) opening.state
-    g.S.Stepper.holds _ _ _ _ _ _ opening.logged (done here)) c.serve.ensures.done
+    (c.now.ensures.told (c.serve.ensures.clock.told told.clock_tells)) (c.serve.ensures.clock.grows told.clock_tells) opening.makes.done.state
+    g.S.Stepper.says.holds _ _ _ _ _ _ opening.makes.done.logged (done here)) c.serve.ensures.done
 
 pub returns-clause-served : goal.returns-clause-served
 returns-clause-served g c = on_ok_three c.serve.result (λ done ready rests told says.
@@ -41,15 +45,26 @@ returns-clause-served g c = on_ok_three c.serve.result (λ done ready rests told
     let disk = c.serve.new.disk in
     let s = c.serve.new.stepper in
     let here : Tells (g.D.Disk.kind c.open_at.new.disk).tells (g.L.Link.tells c.args.link.now) (g.C.Clock.tells c.serve.new.clock) =
-    record { disk_tells = subst (λ (k : Kind). IsTrue k.tells) (sym opening.disk.same) told.disk_tells; link_tells = told.link_tells; clock_tells = told.clock_tells } in
-    let then : IsTrue (g.D.Disk.kind disk).tells = subst (λ (k : Kind). IsTrue k.tells) (sym c.serve.ensures.disk.same) here.disk_tells in
-    let stands : Stands g.S.Stepper.holds (g.D.Disk.images disk) (g.D.Disk.moment disk) (g.S.Stepper.kv s).durable =
-    stands_now _ _ _ (g.D.Disk.content disk) _ (λ files. g.met.D.Disk.images_now disk files then) (λ files. g.met.S.Stepper.rests_hold says s (g.D.Disk.content disk) files ready (rests here.disk_tells)) in
+    record { disk_tells = subst (λ (k : Kind). IsTrue k.tells) (sym opening.makes.goes_on.same) told.disk_tells; link_tells = told.link_tells; clock_tells = told.clock_tells } in
+    let then : IsTrue (g.D.Disk.kind disk).tells = subst (λ (k : Kind). IsTrue k.tells) (sym c.serve.ensures.serves.goes_on.same) here.disk_tells in
+    let stands : Stands g.S.Stepper.says.holds (g.D.Disk.images disk) (g.D.Disk.moment disk) (g.S.Stepper.seen s).kv.durable =
+    stands_now _ _ _ (g.D.Disk.content disk) _ (λ files. g.met.D.Disk.images_now disk files then) (λ files. g.met.S.Stepper.agrees.rests_hold says s (g.D.Disk.content disk) files ready (rests here.disk_tells)) in
     runs_whole _ (frames c.args.limit (g.L.Link.left c.args.link.now)) _ _ c.max-time.ensures _ _ _ _
-    (c.now.ensures.told (c.serve.ensures.clock.told told.clock_tells)) (c.serve.ensures.clock.grows told.clock_tells) opening.state
-    g.S.Stepper.holds _ _ _ _ _ _ opening.logged (done here)
-    g.S.Stepper.logs (g.D.Disk.images disk) (g.D.Disk.moment disk) stands
-    (λ files at. g.met.S.Stepper.rests_log says s (g.D.Disk.content disk) files ready (rests here.disk_tells) ((g.met.D.Disk.images_now disk files then).0 at))) c.serve.ensures.done c.serve.ensures.ready c.serve.ensures.rests
+    (c.now.ensures.told (c.serve.ensures.clock.told told.clock_tells)) (c.serve.ensures.clock.grows told.clock_tells) opening.makes.done.state
+    g.S.Stepper.says.holds _ _ _ _ _ _ opening.makes.done.logged (done here)
+    g.S.Stepper.says.logs (g.D.Disk.images disk) (g.D.Disk.moment disk) stands
+    (λ files at. g.met.S.Stepper.agrees.rests_log says s (g.D.Disk.content disk) files ready (rests here.disk_tells) ((g.met.D.Disk.images_now disk files then).0 at))) c.serve.ensures.done c.serve.ensures.serves.ready c.serve.ensures.serves.rests
 
-pub returns-clause-snapshot : goal.returns-clause-snapshot
-returns-clause-snapshot g c = spares_twice _ _ _ _ _ _ _ _ _ c.open_at.ensures.disk c.serve.ensures.disk c.open_at.ensures.snapshot c.serve.ensures.snapshot
+pub returns-clause-serves : goal.returns-clause-serves
+returns-clause-serves g c =
+    let serves = c.serve.ensures.serves in
+    let refused : IfErr c.serve.result (λ e. IsServeRefusal (Rose (g.D.Disk.faults c.args.disk.now) (g.D.Disk.faults c.serve.new.disk)) (Rose (g.L.Link.faults c.args.link.now) (g.L.Link.faults c.serve.new.link)) (g.D.Disk.kind c.args.disk.now).limit e) = search rules in
+    let full : IfErr c.serve.result (λ e. IsFullBy (g.D.Disk.kind c.args.disk.now).limit (run_weight (g.S.Stepper.seen c.args.stepper.now).weight (g.L.Link.taken c.serve.new.link - g.L.Link.taken c.args.link.now)) e) = search rules in
+    record {
+      goes_on = disk_twice _ _ _ _ _ _ _ c.open_at.ensures.makes.goes_on serves.goes_on;
+      snapshot = spares_twice _ _ _ _ _ _ _ _ _ c.open_at.ensures.makes.goes_on serves.goes_on c.open_at.ensures.makes.snapshot serves.snapshot;
+      ready = serves.ready;
+      rests = on_ok_weaker c.serve.result (λ rests told. rests (subst (λ (k : Kind). IsTrue k.tells) (sym c.open_at.ensures.makes.goes_on.same) told)) serves.rests;
+      refused = refused;
+      full = full;
+    }

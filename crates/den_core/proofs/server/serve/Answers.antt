@@ -1,9 +1,12 @@
-use Rattle.std.proofs.Common.{◌∷◌, IsTrue, refl, sym, ◌∙◌, ap, subst, arith}
+use Rattle.std.proofs.Common.{◌∷◌, IsTrue, IfErr, rules, refl, sym, ◌∙◌, ap, subst, arith}
 use Rattle.den_disk.specs.Files.{Kind}
 use Rattle.den_model.specs.Crash.{Tells}
 use Rattle.den_model.specs.Frames.{frames}
 use Rattle.den_core.proofs.FramesSoFar.{begins, begun_over, served_over, done_over}
 use Rattle.den_core.proofs.GoesOn.{disk_same, disk_twice, link_same, link_twice, clock_same, clock_twice, clock_read, found_some, found_none}
+use Rattle.den_core.proofs.Refusing.{not_done}
+use Rattle.den_core.specs.Refusals.{IsServeRefusal}
+use Rattle.den_disk.specs.Goes.{Rose}
 use Rattle.den_core.proofs.Spared.{spares_still, spares_twice}
 use Rattle.den_core.proofs.Stretch.{stands_now}
 use Rattle.den_core.proofs.Weighing.{counted_on, served_on, heavier_out}
@@ -18,13 +21,13 @@ frames-init g c = record {
   clock = clock_same _ _ _;
   counted = λ told. refl;
   weight = omega arith;
-  ready = c.requires.ready;
-  rests = c.requires.rests;
+  ready = c.requires.stands.ready;
+  rests = c.requires.stands.rests;
   so_far = λ told.
       let disk = c.args.disk.now in
       let s = c.args.stepper.now in
-      begins g.S.Stepper.told g.S.Stepper.holds _ _ _ (g.C.Clock.readings c.args.clock.now) (g.L.Link.sent c.args.link.now) _ (g.S.Stepper.log s) (λ says. stands_now _ _ _ (g.D.Disk.content disk) _ (λ files. g.met.D.Disk.images_now disk files told.disk_tells)
-      (λ files. g.met.S.Stepper.rests_hold says s (g.D.Disk.content disk) files c.requires.ready (c.requires.rests told.disk_tells)));
+      begins g.S.Stepper.says.told g.S.Stepper.says.holds _ _ _ (g.C.Clock.readings c.args.clock.now) (g.L.Link.sent c.args.link.now) _ (g.S.Stepper.seen s).log (λ says. stands_now _ _ _ (g.D.Disk.content disk) _ (λ files. g.met.D.Disk.images_now disk files told.disk_tells)
+      (λ files. g.met.S.Stepper.agrees.rests_hold says s (g.D.Disk.content disk) files c.requires.stands.ready (c.requires.stands.rests told.disk_tells)));
 }
 
 -- the input is at its end
@@ -32,7 +35,7 @@ pub returns-in_default-clause-done : goal.returns-in_default-clause-done
 returns-in_default-clause-done g c = λ told.
     let inv = c.frames.invariant in
     let link_tells : IsTrue (g.L.Link.tells c.frames.link) = subst (λ b. IsTrue b) (sym inv.link.same) told.link_tells in
-    done_over g.S.Stepper.told g.S.Stepper.holds _ _ _ _ _ _ _ _ _ _ _ _ _ _ _ (inv.so_far told) (found_none _ _ _ _ c.in_default.is (c.in_ok-found.ensures.found link_tells)) (c.next.ensures.sent link_tells)
+    done_over g.S.Stepper.says.told g.S.Stepper.says.holds _ _ _ _ _ _ _ _ _ _ _ _ _ _ _ (inv.so_far told) (found_none _ _ _ _ c.in_default.is (c.in_ok-found.ensures.found link_tells)) (c.next.ensures.sent link_tells)
 
 -- a frame was begun
 pub returns-in_err-serve_frame-clause-survives : goal.returns-in_err-serve_frame-clause-survives
@@ -43,19 +46,27 @@ returns-in_err-serve_frame-clause-survives g c = λ told.
     let link_tells : IsTrue (g.L.Link.tells c.frames.link) = subst (λ b. IsTrue b) (sym inv.link.same) told.link_tells in
     let disk_tells : IsTrue (g.D.Disk.kind c.frames.disk).tells = subst (λ (k : Kind). IsTrue k.tells) (sym inv.disk.same) told.disk_tells in
     let then_tells : IsTrue (g.L.Link.tells c.next.new.link) = subst (λ b. IsTrue b) (sym c.next.ensures.on.same) link_tells in
-    let on = c.serve_frame.ensures.disk.told disk_tells in
-    begun_over g.S.Stepper.told g.S.Stepper.holds _ _ _ _ _ _ _ _ _ _ _ _ _ _ _ _ _ _ _ _ _ _
+    let on = c.serve_frame.ensures.serves.goes_on.told disk_tells in
+    begun_over g.S.Stepper.says.told g.S.Stepper.says.holds _ _ _ _ _ _ _ _ _ _ _ _ _ _ _ _ _ _ _ _ _ _
     (inv.disk.told told.disk_tells).later on.later on.past
     (inv.clock.grows before.clock_tells) (c.now.ensures.told told.clock_tells) c.max-time.ensures
     (inv.link.grows told.link_tells) (c.next.ensures.sent link_tells) (c.serve_frame.ensures.link.grows then_tells)
     (inv.so_far before) (found_some _ _ _ _ _ _ inv.limit c.in-Some.is (c.in_ok-found.ensures.found link_tells))
     (λ says. c.serve_frame.ensures.survives disk_tells then_tells says)
 
-pub returns-in_err-serve_frame-clause-full : goal.returns-in_err-serve_frame-clause-full
-returns-in_err-serve_frame-clause-full g c =
+pub returns-in_err-serve_frame-clause-serves : goal.returns-in_err-serve_frame-clause-serves
+returns-in_err-serve_frame-clause-serves g c =
     let inv = c.frames.invariant in
-    heavier_out c.from_residual-in_err-serve_frame.result c.in_err-serve_frame.field-0.0 _ _ _ _ c.from_residual-in_err-serve_frame.ensures.1 (ap (λ (k : Kind). k.limit) inv.disk.same)
-    (served_on (g.S.Stepper.weight c.args.stepper.now) (g.S.Stepper.weight c.frames.stepper) (g.L.Link.taken c.args.link.now) (g.L.Link.taken c.frames.link) (g.L.Link.taken c.next.new.link) (g.L.Link.taken c.serve_frame.new.link) _ c.in-Some.frame c.in-Some.is inv.weight inv.link.more c.in_ok-found.ensures.size c.serve_frame.ensures.taken c.next.ensures.on.more) c.in_err-serve_frame.ensures.full
+    let refused : IfErr c.from_residual-in_err-serve_frame.result (λ e. IsServeRefusal (Rose (g.D.Disk.faults c.args.disk.now) (g.D.Disk.faults c.serve_frame.new.disk)) (Rose (g.L.Link.faults c.args.link.now) (g.L.Link.faults c.serve_frame.new.link)) (g.D.Disk.kind c.args.disk.now).limit e) = search rules in
+    record {
+      goes_on = disk_twice _ _ _ _ _ _ _ inv.disk c.serve_frame.ensures.serves.goes_on;
+      snapshot = spares_twice _ _ _ _ _ _ _ _ _ inv.disk c.serve_frame.ensures.serves.goes_on inv.snapshot c.serve_frame.ensures.serves.snapshot;
+      ready = not_done c.from_residual-in_err-serve_frame.result c.in_err-serve_frame.field-0.0 _ c.from_residual-in_err-serve_frame.ensures.1;
+      rests = not_done c.from_residual-in_err-serve_frame.result c.in_err-serve_frame.field-0.0 _ c.from_residual-in_err-serve_frame.ensures.1;
+      refused = refused;
+      full = heavier_out c.from_residual-in_err-serve_frame.result c.in_err-serve_frame.field-0.0 _ _ _ _ c.from_residual-in_err-serve_frame.ensures.1 (ap (λ (k : Kind). k.limit) inv.disk.same)
+          (served_on (g.S.Stepper.seen c.args.stepper.now).weight (g.S.Stepper.seen c.frames.stepper).weight (g.L.Link.taken c.args.link.now) (g.L.Link.taken c.frames.link) (g.L.Link.taken c.next.new.link) (g.L.Link.taken c.serve_frame.new.link) _ c.in-Some.frame c.in-Some.is inv.weight inv.link.more c.in_ok-found.ensures.size c.serve_frame.ensures.taken c.next.ensures.on.more) c.in_err-serve_frame.ensures.serves.full;
+    }
 
 -- and served
 pub frames-preserved : goal.frames-preserved
@@ -63,8 +74,8 @@ frames-preserved g c =
     let inv = c.frames.invariant in
     record {
       limit = c.next.ensures.limit ∙ inv.limit;
-      disk = disk_twice _ _ _ _ _ _ _ inv.disk c.serve_frame.ensures.disk;
-      snapshot = spares_twice _ _ _ _ _ _ _ _ _ inv.disk c.serve_frame.ensures.disk inv.snapshot c.serve_frame.ensures.snapshot;
+      disk = disk_twice _ _ _ _ _ _ _ inv.disk c.serve_frame.ensures.serves.goes_on;
+      snapshot = spares_twice _ _ _ _ _ _ _ _ _ inv.disk c.serve_frame.ensures.serves.goes_on inv.snapshot c.serve_frame.ensures.serves.snapshot;
       link = link_twice _ _ _ _ _ _ _ _ (link_twice _ _ _ _ _ _ _ _ inv.link c.next.ensures.on) c.serve_frame.ensures.link;
       clock = clock_twice _ _ _ _ _ inv.clock (clock_read _ _ _ _ c.now.result c.now.ensures.told c.now.ensures.tells);
       counted = λ told.
@@ -72,17 +83,17 @@ frames-preserved g c =
           let then_tells : IsTrue (g.L.Link.tells c.next.new.link) = subst (λ b. IsTrue b) (sym c.next.ensures.on.same) link_tells in
           counted_on (g.L.Link.taken c.args.link.now) (g.L.Link.taken c.next.new.link) (g.L.Link.taken c.serve_frame.new.link) (g.L.Link.left c.args.link.now) (g.L.Link.left c.next.new.link) (g.L.Link.left c.serve_frame.new.link)
           c.serve_frame.ensures.taken (c.serve_frame.ensures.left then_tells) (c.next.ensures.counted link_tells ∙ inv.counted told);
-      weight = omega (arith, c.in_ok-serve_frame.ensures.weight, served_on (g.S.Stepper.weight c.args.stepper.now) (g.S.Stepper.weight c.frames.stepper) (g.L.Link.taken c.args.link.now) (g.L.Link.taken c.frames.link) (g.L.Link.taken c.next.new.link) (g.L.Link.taken c.serve_frame.new.link) _ c.in-Some.frame c.in-Some.is inv.weight inv.link.more c.in_ok-found.ensures.size c.serve_frame.ensures.taken c.next.ensures.on.more);
-      ready = c.in_ok-serve_frame.ensures.ready;
-      rests = λ told. c.in_ok-serve_frame.ensures.rests (subst (λ (k : Kind). IsTrue k.tells) (sym inv.disk.same) told);
+      weight = omega (arith, c.in_ok-serve_frame.ensures.weight, served_on (g.S.Stepper.seen c.args.stepper.now).weight (g.S.Stepper.seen c.frames.stepper).weight (g.L.Link.taken c.args.link.now) (g.L.Link.taken c.frames.link) (g.L.Link.taken c.next.new.link) (g.L.Link.taken c.serve_frame.new.link) _ c.in-Some.frame c.in-Some.is inv.weight inv.link.more c.in_ok-found.ensures.size c.serve_frame.ensures.taken c.next.ensures.on.more);
+      ready = c.in_ok-serve_frame.ensures.serves.ready;
+      rests = λ told. c.in_ok-serve_frame.ensures.serves.rests (subst (λ (k : Kind). IsTrue k.tells) (sym inv.disk.same) told);
       so_far = λ told.
           let before : Tells (g.D.Disk.kind c.args.disk.now).tells (g.L.Link.tells c.args.link.now) (g.C.Clock.tells c.frames.clock) =
           record { disk_tells = told.disk_tells; link_tells = told.link_tells; clock_tells = c.now.ensures.tells told.clock_tells } in
           let link_tells : IsTrue (g.L.Link.tells c.frames.link) = subst (λ b. IsTrue b) (sym inv.link.same) told.link_tells in
           let disk_tells : IsTrue (g.D.Disk.kind c.frames.disk).tells = subst (λ (k : Kind). IsTrue k.tells) (sym inv.disk.same) told.disk_tells in
           let then_tells : IsTrue (g.L.Link.tells c.next.new.link) = subst (λ b. IsTrue b) (sym c.next.ensures.on.same) link_tells in
-          let on = c.serve_frame.ensures.disk.told disk_tells in
-          served_over g.S.Stepper.told g.S.Stepper.holds _ _ _ _ _ _ _ _ _ _ _ _ _ _ _ _ _ _ _ _ _ _
+          let on = c.serve_frame.ensures.serves.goes_on.told disk_tells in
+          served_over g.S.Stepper.says.told g.S.Stepper.says.holds _ _ _ _ _ _ _ _ _ _ _ _ _ _ _ _ _ _ _ _ _ _
           (inv.disk.told told.disk_tells).later on.later on.past
           (inv.clock.grows before.clock_tells) (c.now.ensures.told told.clock_tells) c.max-time.ensures
           (inv.link.grows told.link_tells) (c.next.ensures.sent link_tells) (c.serve_frame.ensures.link.grows then_tells)
@@ -92,6 +103,3 @@ frames-preserved g c =
           (λ says. c.serve_frame.ensures.survives disk_tells then_tells says)
           _ _ (c.in_ok-serve_frame.ensures.whole then_tells);
     }
-
-pub returns-in_err-serve_frame-clause-snapshot : goal.returns-in_err-serve_frame-clause-snapshot
-returns-in_err-serve_frame-clause-snapshot g c = spares_twice _ _ _ _ _ _ _ _ _ c.frames.invariant.disk c.serve_frame.ensures.disk c.frames.invariant.snapshot c.serve_frame.ensures.snapshot

@@ -21,13 +21,13 @@ invariant-frames g l =
       link : LinkGoesOn L.tells L.sent L.budget L.taken L.faults l.fn.link l.link;
       clock : ClockGoesOn C.tells C.readings l.fn.clock l.clock;
       counted : IsTrue (L.tells l.fn.link) → L.taken l.link + length (L.left l.link) ≡ L.taken l.fn.link + length (L.left l.fn.link);
-      weight : S.weight l.stepper ≤ served_weight (S.weight l.fn.stepper) (L.taken l.link - L.taken l.fn.link);
-      ready : S.ready l.stepper;
-      rests : IsTrue (D.kind l.fn.disk).tells → S.rests l.stepper (D.content l.disk);
+      weight : (S.seen l.stepper).weight ≤ served_weight (S.seen l.fn.stepper).weight (L.taken l.link - L.taken l.fn.link);
+      ready : (S.seen l.stepper).ready;
+      rests : IsTrue (D.kind l.fn.disk).tells → (S.seen l.stepper).rests (D.content l.disk);
       so_far : Tells (D.kind l.fn.disk).tells (L.tells l.fn.link) (C.tells l.clock)
-          → SoFar S.told S.holds (D.images l.disk) (D.moment l.fn.disk) (D.moment l.disk)
+          → SoFar S.says.told S.says.holds (D.images l.disk) (D.moment l.fn.disk) (D.moment l.disk)
           (frames l.limit (L.left l.fn.link)) (frames l.limit (L.left l.link))
-          (added (C.readings l.fn.clock) (C.readings l.clock)) (added (L.sent l.fn.link) (L.sent l.link)) (S.kv l.fn.stepper) (S.kv l.stepper) (S.log l.fn.stepper) (S.log l.stepper);
+          (added (C.readings l.fn.clock) (C.readings l.clock)) (added (L.sent l.fn.link) (L.sent l.link)) (S.seen l.fn.stepper).kv (S.seen l.stepper).kv (S.seen l.fn.stepper).log (S.seen l.stepper).log;
     }
 
 abbrev pub decreases-frames : goal.decreases-frames

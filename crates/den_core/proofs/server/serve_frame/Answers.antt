@@ -10,26 +10,26 @@ pub returns-in_err-send_all-clause-survives : goal.returns-in_err-send_all-claus
 returns-in_err-send_all-clause-survives g c = λ disk_tells link_tells told.
     let step = c.in_ok-out.ensures in
     let disk = c.step.new.disk in
-    let then : IsTrue (g.D.Disk.kind disk).tells = subst (λ (k : Kind). IsTrue k.tells) (sym step.disk.same) disk_tells in
-    let stands : Stands g.S.Stepper.holds (g.D.Disk.images disk) (g.D.Disk.moment disk) (g.S.Stepper.kv c.step.new.self).durable =
-    stands_now g.S.Stepper.holds (g.D.Disk.images disk) (g.D.Disk.moment disk) (g.D.Disk.content disk) (g.S.Stepper.kv c.step.new.self).durable (λ files. g.met.D.Disk.images_now disk files then) (λ files. g.met.S.Stepper.rests_hold told c.step.new.self (g.D.Disk.content disk) files step.ready (step.rests disk_tells)) in
-    then_sent_over g.S.Stepper.holds _ _ _ _ (g.S.Stepper.kv c.step.new.self) _ _ _ _ (step.disk.told disk_tells).later (step.survives disk_tells told) step.state stands
+    let then : IsTrue (g.D.Disk.kind disk).tells = subst (λ (k : Kind). IsTrue k.tells) (sym step.makes.goes_on.same) disk_tells in
+    let stands : Stands g.S.Stepper.says.holds (g.D.Disk.images disk) (g.D.Disk.moment disk) (g.S.Stepper.seen c.step.new.self).kv.durable =
+    stands_now g.S.Stepper.says.holds (g.D.Disk.images disk) (g.D.Disk.moment disk) (g.D.Disk.content disk) (g.S.Stepper.seen c.step.new.self).kv.durable (λ files. g.met.D.Disk.images_now disk files then) (λ files. g.met.S.Stepper.agrees.rests_hold told c.step.new.self (g.D.Disk.content disk) files step.makes.done.ready (step.makes.done.rests disk_tells)) in
+    then_sent_over g.S.Stepper.says.holds _ _ _ _ (g.S.Stepper.seen c.step.new.self).kv _ _ _ _ (step.makes.goes_on.told disk_tells).later (step.makes.survives disk_tells told) step.makes.done.state stands
     step.answer (c.send_all.ensures.front link_tells)
 
 pub returns-clause-survives : goal.returns-clause-survives
 returns-clause-survives g c = λ disk_tells link_tells told.
     let step = c.in_ok-out.ensures in
     let disk = c.step.new.disk in
-    let then : IsTrue (g.D.Disk.kind disk).tells = subst (λ (k : Kind). IsTrue k.tells) (sym step.disk.same) disk_tells in
-    let stands : Stands g.S.Stepper.holds (g.D.Disk.images disk) (g.D.Disk.moment disk) (g.S.Stepper.kv c.step.new.self).durable =
-    stands_now g.S.Stepper.holds (g.D.Disk.images disk) (g.D.Disk.moment disk) (g.D.Disk.content disk) (g.S.Stepper.kv c.step.new.self).durable (λ files. g.met.D.Disk.images_now disk files then) (λ files. g.met.S.Stepper.rests_hold told c.step.new.self (g.D.Disk.content disk) files step.ready (step.rests disk_tells)) in
-    then_sent_over g.S.Stepper.holds _ _ _ _ (g.S.Stepper.kv c.step.new.self) _ _ _ _ (step.disk.told disk_tells).later (step.survives disk_tells told) step.state stands
+    let then : IsTrue (g.D.Disk.kind disk).tells = subst (λ (k : Kind). IsTrue k.tells) (sym step.makes.goes_on.same) disk_tells in
+    let stands : Stands g.S.Stepper.says.holds (g.D.Disk.images disk) (g.D.Disk.moment disk) (g.S.Stepper.seen c.step.new.self).kv.durable =
+    stands_now g.S.Stepper.says.holds (g.D.Disk.images disk) (g.D.Disk.moment disk) (g.D.Disk.content disk) (g.S.Stepper.seen c.step.new.self).kv.durable (λ files. g.met.D.Disk.images_now disk files then) (λ files. g.met.S.Stepper.agrees.rests_hold told c.step.new.self (g.D.Disk.content disk) files step.makes.done.ready (step.makes.done.rests disk_tells)) in
+    then_sent_over g.S.Stepper.says.holds _ _ _ _ (g.S.Stepper.seen c.step.new.self).kv _ _ _ _ (step.makes.goes_on.told disk_tells).later (step.makes.survives disk_tells told) step.makes.done.state stands
     step.answer (c.send_all.ensures.front link_tells)
 
 -- all of it was sent
 pub returns-clause-whole : goal.returns-clause-whole
 returns-clause-whole g c = λ link_tells. record {
-  state = c.in_ok-out.ensures.state;
-  logged = c.in_ok-out.ensures.logged;
+  state = c.in_ok-out.ensures.makes.done.state;
+  logged = c.in_ok-out.ensures.makes.done.logged;
   bytes = ap bytes_of (added_is _ _ _ (c.in_ok-send_all.ensures.all link_tells)) ∙ bytes_of-stamped _ _ ∙ c.in_ok-out.ensures.answer;
 }

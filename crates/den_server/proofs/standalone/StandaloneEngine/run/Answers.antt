@@ -76,7 +76,7 @@ returns-clause-opening g c = λ kept told stands.
     record { disk_tells = opened_tells; link_tells = told.link_tells; clock_tells = told.clock_tells } in
     let readings = added (g.C.Clock.readings c.args.clock.now) (g.C.Clock.readings c.run_from.new.clock) in
     let sent = added (g.L.Link.sent c.args.link.now) (g.L.Link.sent c.run_from.new.link) in
-    let goes = c.run_from.ensures.disk.told opened_tells in
+    let goes = c.run_from.ensures.serves.goes_on.told opened_tells in
     opening_then durable_in (D.images first) (D.images opened) (D.images last) (D.moment first) (D.moment opened) (D.moment last) _ _ _ _
     sent (entered c.args.config.now.node kept) _
     (λ (k : Kv). plan_over k c.args.config.now.node.network.max_frame_size (g.L.Link.left c.args.link.now) readings)
@@ -94,7 +94,7 @@ returns-clause-any_moment g c = survives_all_along g.D.Disk g.L.Link g.C.Clock (
 
 pub returns-clause-prefix : goal.returns-clause-prefix
 returns-clause-prefix g c = sends_prefix g.D.Disk g.L.Link g.C.Clock (run_config c.args.config.now.node) c.args.disk.now c.run_from.new.disk c.args.link.now c.run_from.new.link c.args.clock.now c.run_from.new.clock _
-    (c.run_from.ensures.disk.same ∙ c.open_folder.ensures.disk.same) (λ files. g.met.D.Disk.images_now c.run_from.new.disk files) (returns-clause-opening g c)
+    (c.run_from.ensures.serves.goes_on.same ∙ c.open_folder.ensures.disk.same) (λ files. g.met.D.Disk.images_now c.run_from.new.disk files) (returns-clause-opening g c)
 
 pub returns-clause-served : goal.returns-clause-served
 returns-clause-served g c = on_ok_weaker c.run_from.result (λ served kept log told stands read.
@@ -127,7 +127,7 @@ returns-clause-refused g c = if_err_two c.run_from.result _ _ _
     (λ r. rose_then _ _ _ c.open_folder.ensures.disk.counts r) (λ told. c.in-Ok.ensures.accepted told) (λ told. c.in-Ok.ensures.weight told)
     (subst (λ (k : Kind). IsServeRefusal rose link_rose k.limit e) c.open_folder.ensures.disk.same h)
     (subst (λ (k : Kind). IsFullBy k.limit (run_weight weight taken) e) c.open_folder.ensures.disk.same full))
-    c.run_from.ensures.refused c.run_from.ensures.full
+    c.run_from.ensures.serves.refused c.run_from.ensures.serves.full
 
 pub returns-clause-turned_away : goal.returns-clause-turned_away
 returns-clause-turned_away g c = λ e told is. absurd (refused_not_read (refusal_in (g.D.Disk.content c.args.disk.now).reading) e (c.in-Ok.ensures.accepted told) is)
@@ -143,9 +143,9 @@ returns-clause-complete g c = λ told link_tells unrefused disk link small.
 
 pub returns-clause-goes_on : goal.returns-clause-goes_on
 returns-clause-goes_on g c = record {
-  disk_goes_on = disk_twice g.D.Disk.kind g.D.Disk.moment g.D.Disk.images g.D.Disk.faults c.args.disk.now c.open_folder.new.disk c.run_from.new.disk c.open_folder.ensures.disk c.run_from.ensures.disk;
+  disk_goes_on = disk_twice g.D.Disk.kind g.D.Disk.moment g.D.Disk.images g.D.Disk.faults c.args.disk.now c.open_folder.new.disk c.run_from.new.disk c.open_folder.ensures.disk c.run_from.ensures.serves.goes_on;
   link_goes_on = c.run_from.ensures.link;
   clock_goes_on = c.run_from.ensures.clock;
   snapshot = spares_twice g.D.Disk.kind g.D.Disk.content g.D.Disk.moment g.D.Disk.images g.D.Disk.faults snapshot_family c.args.disk.now c.open_folder.new.disk c.run_from.new.disk
-      c.open_folder.ensures.disk c.run_from.ensures.disk c.in-Ok.ensures.snapshot c.run_from.ensures.snapshot;
+      c.open_folder.ensures.disk c.run_from.ensures.serves.goes_on c.in-Ok.ensures.snapshot c.run_from.ensures.serves.snapshot;
 }
