@@ -1,5 +1,5 @@
 -- What a family's files come to in bytes, and that a disk is told to be full only of what it was given.
-use Rattle.std.proofs.Common.{◌≡◌, ℕ, ◌+◌, ◌*◌, ◌^◌, ◌<◌, ◌≤◌, List, [], ◌∷◌, length, refl, sym, ap, subst, arith}
+use Rattle.std.proofs.Common.{◌≡◌, ◌⊎◌, ◌∙◌, ℕ, ◌+◌, ◌*◌, ◌^◌, ◌<◌, ◌≤◌, List, [], ◌∷◌, length, refl, sym, ap, subst, arith}
 use Rattle.den_disk.specs.declared.place.Family.{Family}
 use Rattle.den_disk.specs.declared.place.Place.{Place}
 use Rattle.den_disk.specs.Files.{Content}
@@ -10,12 +10,13 @@ use Rattle.den_model.specs.Sizes.{regions_size, found_size, family_size}
 use Rattle.den_gate.specs.declared.error.GateError.{GateError}
 use Rattle.den_gate.specs.declared.error.GateError.TheVariants as gate
 use Rattle.den_gate.specs.declared.gate.GateFile.{GateFile}
-use Rattle.den_gate.specs.Gate.{payloads}
 use Rattle.den_gate.specs.Causes.{Because}
-use Rattle.den_gate.specs.Gate.{IsCurrent}
+use Rattle.den_gate.specs.Gate.{payloads, IsAtRest, IsCurrent}
+use Rattle.den_gate.proofs.Families.{rest_regions}
 use Rattle.den_gate.specs.Slot.{IsShort, room_for}
 use Rattle.den_disk.specs.declared.disk.Disk.{Ghosts}
-use Rattle.den_codec.specs.declared.error.Error.TheVariants.{StorageIoError}
+use Rattle.den_codec.specs.declared.error.Error.TheVariants.{StorageIoError, DiskFull}
+use Rattle.den_journal.specs.Causes.{IsFullFor, IsTooShort, slot_size}
 use Rattle.den_journal.specs.Shown.{Change, Held, Shown}
 use Rattle.den_journal.specs.Writes.{Faulted, IsRefused, Tells}
 use Rattle.den_journal.specs.Folding.{end_from}
@@ -37,28 +38,30 @@ loaded_weight family gate old new is spares =
 
 -- ---- a full disk
 
-full_of : (end size needed limit weight : ℕ) → needed ≡ room_for end size → limit < needed → 2 ^ 43 ≤ limit → end + size ≤ weight → limit < 4 * weight
-full_of end size needed limit weight is over least within = omega arith
+full_of : (size needed limit weight : ℕ) → needed ≡ room_for size 0 → limit < needed → 2 ^ 43 ≤ limit → size ≤ weight → limit < 4 * weight
+full_of size needed limit weight is over least within = omega arith
 
--- what the disk refused of an append
-pub refused_by : {D V : Type 0} (disk : Ghosts D) (was now : Shown V) (old new : D) (family : Family) (holds : Held V) (change : Change V) (full : ℕ → ℕ → Type 0) (e : GateError) → (now.ready → ⊥) → now.value ≡ was.value → change.size ≤ change.rise
-    → ((needed limit : ℕ) → full needed limit → (needed ≡ room_for was.weight change.size) × (limit ≡ (disk.kind old).limit) × (limit < needed) × (2 ^ 43 ≤ limit)
-    × (Tells disk old → IsShort ((disk.content old).reading (slot_of family (disk.content old).reading)) was.weight change.size))
+-- what the disk refused of a change
+pub refused_by : {D V : Type 0} (disk : Ghosts D) (was now : Shown V) (old new : D) (family : Family) (holds : Held V) (change : Change V) (full : ℕ → ℕ → Type 0) (e : GateError) → (now.ready → ⊥)
+    → (now.value ≡ was.value) ⊎ (now.value ≡ change.to)
+    → ((needed limit : ℕ) → full needed limit → (limit ≡ (disk.kind old).limit) × (limit < needed) × (2 ^ 43 ≤ limit))
+    → ((needed limit : ℕ) → full needed limit → IsFullFor (Tells disk old × holds.told) family (disk.content new).reading (was.weight + change.rise) change.adds change.drafts (DiskFull needed limit))
     → Because ⊥ (Faulted disk old new) full (λ part offset. ⊥) e → IsRefused disk was now old new family holds change (refusal family e)
-refused_by disk was now old new family holds change full gate.OutOfMemory failed kept within says h = absurd h
-refused_by disk was now old new family holds change full gate.StorageIoError failed kept within says h =
+refused_by disk was now old new family holds change full gate.OutOfMemory failed kept says room h = absurd h
+refused_by disk was now old new family holds change full gate.StorageIoError failed kept says room h =
     record { cause = h; full = tt; heavy = tt; untouched = λ e. absurd (cc e); failed = λ _ ready. failed ready; kept = λ _. kept }
-refused_by disk was now old new family holds change full (gate.Full needed limit) failed kept within says h =
+refused_by disk was now old new family holds change full (gate.Full needed limit) failed kept says room h =
     let s = says needed limit h in
+    let f = room needed limit h in
     record {
-      cause = (s.2, s.1);
-      full = (s.0, s.4);
-      heavy = omega (arith, full_of was.weight change.size needed limit (was.weight + change.rise) s.0 s.2 s.3 (omega arith), s.1);
+      cause = (s.1, s.0);
+      full = f;
+      heavy = omega (arith, full_of f.0.size needed limit (was.weight + change.rise) f.0.room s.1 s.2 f.0.within, s.0);
       untouched = λ e. absurd (cc e);
       failed = λ _ ready. failed ready;
       kept = λ _. kept;
     }
-refused_by disk was now old new family holds change full (gate.DataCorruption part offset) failed kept within says h = absurd h
+refused_by disk was now old new family holds change full (gate.DataCorruption part offset) failed kept says room h = absurd h
 
 -- the slot in use is the one that the family's head names
 slot_in_use : (family : Family) (slot : Place) (c : Content) → slot.family ≡ family → IsCurrent slot c → slot_of family c.reading ≡ slot
@@ -66,11 +69,23 @@ slot_in_use family slot c own current =
     let P : Family → Type 0 = λ f. slot_of f c.reading ≡ slot in
     subst P own (λ i. record { family = slot.family; part = current.head i })
 
-pub short_in_use : (family : Family) (slot : Place) (c : Content) (end length_now size : ℕ) → slot.family ≡ family → IsCurrent slot c → length_now ≡ size → IsShort (c.reading slot) end length_now
-    → IsShort (c.reading (slot_of family c.reading)) end size
-short_in_use family slot c end length_now size own current same short =
-    let P : Place → Type 0 = λ p. IsShort (c.reading p) end size in
-    subst P (sym (slot_in_use family slot c own current)) (omega arith)
+-- the regions of a gate file at rest end where it says
+pub rest_size : (gate : GateFile) (c : Content) → IsAtRest gate c → slot_size gate.slot c.reading ≡ gate.end
+rest_size gate c rest =
+    let ps = payloads gate c.reading in
+    omega (arith, ap found_size (rest_regions gate c rest), found 0 ps, end_is 0 ps, rest.holds.size)
+
+pub short_in_use : (family : Family) (gate : GateFile) (c : Content) (needed size : ℕ) (sizes : ℕ → Type 0) → gate.slot.family ≡ family → IsAtRest gate c → IsCurrent gate.slot c → sizes size
+    → needed ≡ room_for gate.end size → IsShort (c.reading gate.slot) gate.end size → IsTooShort (slot_of family c.reading) sizes needed c.reading
+short_in_use family gate c needed size sizes own rest current meant room short =
+    let P : Place → Type 0 = λ p. IsTooShort p sizes needed c.reading in
+    let end : gate.end ≡ slot_size gate.slot c.reading = sym (rest_size gate c rest) in
+    subst P (sym (slot_in_use family gate.slot c own current)) (record {
+      size = size;
+      meant = meant;
+      room = room ∙ ap (λ (n : ℕ). room_for n size) end;
+      short = subst (λ (n : ℕ). IsShort (c.reading gate.slot) n size) end short;
+    })
 
 -- what the disk refused of a sync
 pub sync_refused : (rose : Type 0) (family : Family) (e : GateError) → Because ⊥ rose (λ needed limit. ⊥) (λ part offset. ⊥) e → (refusal family e ≡ StorageIoError) × rose

@@ -8,7 +8,7 @@ use Rattle.den_disk.specs.declared.place.Place.{Place}
 use Rattle.den_disk.specs.Files.{Files}
 use Rattle.den_disk.specs.Families.{OldOrNew, SparesImages, SparesOthers, SparesAll, NoNewImages}
 use Rattle.den_model.specs.Regions.{Region, placed}
-use Rattle.den_model.specs.Image.{ok, slot_of}
+use Rattle.den_model.specs.Image.{ok}
 use Rattle.den_codec.specs.declared.error.Error.{Error}
 use Rattle.den_codec.specs.declared.error.Error.TheVariants.{OutOfMemory}
 use Rattle.den_codec.specs.Full.{IsHeavy}
@@ -93,7 +93,7 @@ module _ {D V T : Type 0} (disk : Ghosts D) (family : Family) (holds : Held V) (
     done = tt;
     refused = record {
       cause = subst (IsRefusal (Faulted disk d d) (disk.kind d).limit) (sym is) tt;
-      full = subst (IsFullFor (Tells disk d) ((disk.content d).reading (slot_of family (disk.content d).reading)) was.weight change.size) (sym is) tt;
+      full = subst (IsFullFor (Tells disk d × holds.told) family (disk.content d).reading (was.weight + change.rise) change.adds change.drafts) (sym is) tt;
       heavy = subst (IsHeavy (disk.kind d).limit (was.weight + change.rise)) (sym is) tt;
       untouched = λ _. inl (record { same_disk = refl; same_value = same; same_weight = even; ready = ready; rests = rests });
       failed = λ of_disk _. subst IsOfDisk is of_disk;
@@ -111,7 +111,7 @@ writes_lost disk family holds change was now old new (Err e) is goes moves so = 
   done = tt;
   refused = record {
     cause = subst (IsRefusal (Faulted disk old new) (disk.kind old).limit) (sym is) tt;
-    full = subst (IsFullFor (Tells disk old) ((disk.content old).reading (slot_of family (disk.content old).reading)) was.weight change.size) (sym is) tt;
+    full = subst (IsFullFor (Tells disk old × holds.told) family (disk.content new).reading (was.weight + change.rise) change.adds change.drafts) (sym is) tt;
     heavy = subst (IsHeavy (disk.kind old).limit (was.weight + change.rise)) (sym is) tt;
     untouched = λ _. inr so;
     failed = λ of_disk _. subst IsOfDisk is of_disk;

@@ -1,6 +1,13 @@
 -- Why a call of a store is refused.
-use Rattle.std.specs.Prelude.{◌≡◌, ◌<◌, ℕ, List}
+use Rattle.std.specs.Prelude.{◌≡◌, ◌⊎◌, ◌<◌, ◌≤◌, ℕ}
+use Rattle.den_disk.specs.declared.place.Family.{Family}
+use Rattle.den_disk.specs.declared.place.Place.{Place}
+use Rattle.den_disk.specs.Files.{Files}
+use Rattle.den_model.specs.Regions.{regions}
+use Rattle.den_model.specs.Image.{slot_of}
+use Rattle.den_model.specs.Sizes.{found_size}
 use Rattle.den_gate.specs.Slot.{IsShort, room_for}
+use Rattle.den_gate.specs.Draft.{other_slot}
 use Rattle.den_codec.specs.declared.error.Error.{Error}
 use Rattle.den_codec.specs.declared.error.Error.TheVariants.{OutOfMemory, StorageIoError, DiskFull, LinkFault, DataCorruption, FeatureNotEnabled, ProposeFailed, UnorderedChunk, Config, StateMachineError}
 
@@ -31,16 +38,34 @@ IsOfDisk (UnorderedChunk index) = ⊥
 IsOfDisk (Config place) = ⊥
 IsOfDisk StateMachineError = ⊥
 
--- where the disk is full: the room that a region of so many bytes would need behind others of a weight, which the slot in
--- use has not, where the disk tells
-abbrev pub IsFullFor : (tells : Type 0) (slot : List ℕ) (weight size : ℕ) → Error → Type 0
-IsFullFor tells slot weight size (DiskFull needed limit) = (needed ≡ room_for weight size) × (tells → IsShort slot weight size)
-IsFullFor tells slot weight size OutOfMemory = Unit {0}
-IsFullFor tells slot weight size StorageIoError = Unit {0}
-IsFullFor tells slot weight size LinkFault = Unit {0}
-IsFullFor tells slot weight size (DataCorruption place offset) = Unit {0}
-IsFullFor tells slot weight size FeatureNotEnabled = Unit {0}
-IsFullFor tells slot weight size ProposeFailed = Unit {0}
-IsFullFor tells slot weight size (UnorderedChunk index) = Unit {0}
-IsFullFor tells slot weight size (Config place) = Unit {0}
-IsFullFor tells slot weight size StateMachineError = Unit {0}
+-- how many bytes of regions a file has
+abbrev pub slot_size : Place → Files → ℕ
+slot_size slot files = found_size (regions (files slot))
+
+-- a slot has too little room for a payload of one of these sizes behind its regions: the room that it would need
+pub record IsTooShort (slot : Place) (sizes : ℕ → Type 0) (needed : ℕ) (files : Files) : Type 0 where
+  pub size : ℕ
+  pub meant : sizes size
+  pub room : needed ≡ room_for (slot_size slot files) size
+  pub short : IsShort (files slot) (slot_size slot files) size
+
+-- the room of no more than so many bytes of regions
+pub record IsRoomOf (most needed : ℕ) : Type 0 where
+  pub size : ℕ
+  pub within : size ≤ most
+  pub room : needed ≡ room_for size 0
+
+-- where the disk is full: the room of no more bytes than this, and, where it is told what files hold, the room that the slot
+-- in use would need for a payload of one of some sizes, or the family's other slot for one of others
+abbrev pub IsFullFor : (told : Type 0) (family : Family) (files : Files) (most : ℕ) (adds drafts : ℕ → Type 0) → Error → Type 0
+IsFullFor told family files most adds drafts (DiskFull needed limit) = IsRoomOf most needed
+    × (told → IsTooShort (slot_of family files) adds needed files ⊎ IsTooShort (other_slot (slot_of family files)) drafts needed files)
+IsFullFor told family files most adds drafts OutOfMemory = Unit {0}
+IsFullFor told family files most adds drafts StorageIoError = Unit {0}
+IsFullFor told family files most adds drafts LinkFault = Unit {0}
+IsFullFor told family files most adds drafts (DataCorruption place offset) = Unit {0}
+IsFullFor told family files most adds drafts FeatureNotEnabled = Unit {0}
+IsFullFor told family files most adds drafts ProposeFailed = Unit {0}
+IsFullFor told family files most adds drafts (UnorderedChunk index) = Unit {0}
+IsFullFor told family files most adds drafts (Config place) = Unit {0}
+IsFullFor told family files most adds drafts StateMachineError = Unit {0}

@@ -1,5 +1,5 @@
 -- What contracts see of a store: a family's files, and the value that a fold over their regions gives.
-use Rattle.std.specs.Prelude.{◌≡◌, ◌⊎◌, ℕ, Bool, false, List, [], ◌∷◌, Option, Some, Result, Ok}
+use Rattle.std.specs.Prelude.{◌≡◌, ◌⊎◌, ℕ, ◌+◌, ◌*◌, max, Bool, false, List, [], ◌∷◌, Option, Some, Result, Ok}
 use Rattle.den_disk.specs.declared.place.Family.{Family}
 use Rattle.den_disk.specs.Files.{Files, Content}
 use Rattle.den_model.specs.Regions.{Region, placed}
@@ -7,8 +7,8 @@ use Rattle.den_model.specs.Image.{ok, in_regions}
 use Rattle.den_gate.specs.declared.gate.GateFile.{GateFile}
 use Rattle.den_gate.specs.Gate.{payloads, IsAtRest, IsCurrent}
 
--- What is seen of one at a moment: its value; its weight, the bytes of the regions in use; that it has not failed; and
--- that its files lie on the disk as its last call left them.
+-- What is seen of one at a moment: its value; its weight, the bytes that its regions take, or would take when written anew,
+-- at most; that it has not failed; and that its files lie on the disk as its last call left them.
 pub record Shown (V : Type 0) : Type 1 where
   pub value : V
   pub weight : ℕ
@@ -21,11 +21,13 @@ pub record Held (V : Type 0) : Type 1 where
   pub told : Type 0
   pub of : Files → Option V
 
--- What a call writes: the value that it makes, the bytes of its region's payload, by how much the weight rises at most,
--- and whether memory may be wanting once the region is written.
+-- What a call writes: the value that it makes; the sizes of the payloads that it may add to the slot in use, and of those
+-- that it may put into the family's other slot; by how much the weight rises at most; and whether memory may be wanting
+-- once a part is written.
 pub record Change (V : Type 0) : Type 1 where
   pub to : V
-  pub size : ℕ
+  pub adds : ℕ → Type 0
+  pub drafts : ℕ → Type 0
   pub rise : ℕ
   pub lost : Type 0
 
@@ -46,9 +48,18 @@ pub record Gives {V : Type 0} (family : Family) (meaning : List Region → Resul
   pub current : IsCurrent gate.slot c
   pub means : meaning (placed 0 (payloads gate c.reading)) ≡ Ok value
 
--- what is seen of a gate file with the value that its regions give
-abbrev pub shown_of : {V : Type 0} → Family → (List Region → Result V ℕ) → Bool → GateFile → V → Shown V
-shown_of family meaning failed gate value = record { value = value; weight = gate.end; ready = (failed ≡ false) × (gate.failed ≡ false); rests = Gives family meaning gate value }
+-- what the regions of a value of this size take when they are written anew, at most
+abbrev pub rewrite_size : ℕ → ℕ
+rewrite_size size = 64 + 2 * size
+
+-- what is seen of a gate file with the value that its regions give, by the size of values
+abbrev pub shown_of : {V : Type 0} → Family → (List Region → Result V ℕ) → (size : V → ℕ) → Bool → GateFile → V → Shown V
+shown_of family meaning size failed gate value = record {
+  value = value;
+  weight = max gate.end (rewrite_size (size value));
+  ready = (failed ≡ false) × (gate.failed ≡ false);
+  rests = Gives family meaning gate value;
+}
 
 -- what files give of a family by the meaning of its regions, which is told
 abbrev pub held_in : {V : Type 0} → Family → (List Region → Result V ℕ) → Held V

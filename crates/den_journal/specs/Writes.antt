@@ -14,7 +14,7 @@ use Rattle.den_codec.specs.Full.{IsHeavy}
 use Rattle.den_journal.specs.Causes.{IsFullFor, IsOfDisk, IsRefusal}
 use Rattle.den_journal.specs.Folding.{IsUnread}
 use Rattle.den_journal.specs.Opening.{IsSettled}
-use Rattle.den_journal.specs.Shown.{Change, Held, IsOneOf, Shown}
+use Rattle.den_journal.specs.Shown.{Change, Held, IsOneOf, Shown, rewrite_size}
 
 module _ {D : Type 0} (disk : Ghosts D) where
   -- the same kind of disk, which counts its faults and keeps the images of earlier moments
@@ -72,14 +72,14 @@ module _ {D : Type 0} (disk : Ghosts D) where
       pub held : Tells old → holds.told → (files : Files) → disk.images new (disk.moment new) files → holds.of files ≡ Some change.to
 
     -- A refusal of a call that writes. Want of memory changes nothing; after a refusal of the disk the store is of no more
-    -- use, with the value that it had. A full disk is told the room that the slot in use would need.
+    -- use, with the value that it had or the one that was to be made. A full disk is told the room that a slot would need.
     pub record IsRefused (family : Family) (holds : Held V) (change : Change V) (e : Error) : Type 0 where
       pub cause : IsRefusal (Faulted old new) (disk.kind old).limit e
-      pub full : IsFullFor (Tells old) ((disk.content old).reading (slot_of family (disk.content old).reading)) was.weight change.size e
+      pub full : IsFullFor (Tells old × holds.told) family (disk.content new).reading (was.weight + change.rise) change.adds change.drafts e
       pub heavy : IsHeavy (disk.kind old).limit (was.weight + change.rise) e
       pub untouched : e ≡ OutOfMemory → Untouched ⊎ IsLost holds change
       pub failed : IsOfDisk e → now.ready → ⊥
-      pub kept : IsOfDisk e → now.value ≡ was.value
+      pub kept : IsOfDisk e → (now.value ≡ was.value) ⊎ (now.value ≡ change.to)
 
     -- A call that makes one change of the family's files. A crash inside leaves the old value or the new one.
     pub record Writes {T : Type 0} (family : Family) (holds : Held V) (change : Change V) (result : Result T Error) : Type 0 where
@@ -101,7 +101,7 @@ module _ {D : Type 0} (disk : Ghosts D) where
   pub record IsOpened {V : Type 0} (family : Family) (gives : Files → Result V ℕ) (now : Shown V) (old new : D) : Type 0 where
     pub ready : now.ready
     pub value : Tells old → gives (disk.content old).reading ≡ Ok now.value
-    pub weight : Tells old → now.weight ≡ family_size family (disk.content old).reading
+    pub weight : Tells old → now.weight ≤ rewrite_size (family_size family (disk.content old).reading)
     pub rests : Tells old → now.rests (disk.content new)
 
   -- An opening of a family's files, whatever they are, after a sync of all files. `DataCorruption` names the slot in use,

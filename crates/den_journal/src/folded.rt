@@ -1,8 +1,7 @@
 //! What regions are folded into.
-ghost use Rattle.std.specs.Prelude.{◌≡◌, ◌≤◌, ◌+◌, ℕ, List, Option, Some, None, Result, IsTrue, IsErr, IfOk, OnOk, length, if◌then◌else◌};
+ghost use Rattle.std.specs.Prelude.{◌≡◌, ◌≤◌, ◌+◌, ◌*◌, ℕ, List, Option, Some, None, Result, IsTrue, IsErr, IfOk, OnOk, length, if◌then◌else◌};
 ghost use Rattle.den_disk.specs.declared.place.Family.{Family};
 ghost use Rattle.den_model.specs.Regions.{Region};
-ghost use Rattle.den_model.specs.Words.{IsBytes};
 ghost use Rattle.den_journal.specs.Folding.{Folds};
 
 use den_codec::Word;
@@ -47,13 +46,15 @@ pub trait Folded: Sized + Drop {
     /// It may want memory once this region is written.
     ghost lost: { Self.Region → Type 0 };
 
-    /// A number of bytes, which no payload makes greater by more than its length.
+    /// A number of bytes, which no payload and no region makes greater by more than its length.
     ghost size: { Value → ℕ };
+
+    /// The value once its regions are written anew.
+    ghost renewed: { Value → Value };
 
     /// What no region gives.
     fn empty(alloc: Global) -> Self
-        ensures value { value result ≡ empty }
-        ensures size { size (value result) ≡ 0 };
+        ensures value { value result ≡ empty };
 
     /// Makes of it what one more payload says; false where that is no lawful word.
     fn take(&mut self, alloc: Global, payload: &[u8]) -> Result<bool, AllocError>
@@ -73,9 +74,19 @@ pub trait Folded: Sized + Drop {
         ensures settled { OnOk result (value self.new ≡ changed (value self.old) region) }
         ensures lost { IsErr result → lost region };
 
+    /// Makes of it what it is once its regions are written anew.
+    fn renew(&mut self)
+        ensures { value self.new ≡ renewed (value self.old) };
+
     ghost folds: { Folds after from };
 
     ghost again: { (v : Value) (r : Self.Region) → lawful v r → Self.Region.fits r → after v (Self.Region.word r) ≡ Some (changed v r) };
 
-    ghost rises: { (r : Self.Region) → 9 + length (Self.Region.word r) ≤ rise r };
+    ghost rises: { (r : Self.Region) → 9 + 2 * length (Self.Region.word r) ≤ rise r };
+
+    ghost none: { size empty ≡ 0 };
+
+    ghost sized: { (v : Value) (r : Self.Region) → lawful v r → Self.Region.fits r → size (changed v r) ≤ size v + length (Self.Region.word r) };
+
+    ghost anew: { (v : Value) → size (renewed v) ≡ size v };
 }

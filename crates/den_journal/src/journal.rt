@@ -1,7 +1,8 @@
 //! A journal.
-ghost use Rattle.std.specs.Prelude.{◌≡◌, ◌↔◌, ◌≤◌, ◌++◌, ◌∷◌, [], IsTrue, IfOk, OnOk, false, length};
+ghost use Rattle.std.specs.Prelude.{◌≡◌, ◌↔◌, ◌≤◌, ◌++◌, ◌∷◌, [], IsTrue, IfErr, IfOk, OnOk, false};
 ghost use Rattle.den_gate.specs.Gate.{payloads};
 ghost use Rattle.den_model.specs.Sizes.{family_size};
+ghost use Rattle.den_journal.specs.Causes.{IsOfDisk};
 ghost use Rattle.den_journal.specs.Writes.{Opens, Stands, Syncs, Writes};
 
 use crate::Folded;
@@ -51,6 +52,7 @@ impl<F: Folded> Journal<F> {
         ensures appended { OnOk result (IsTrue (D.kind disk.old).tells →
             payloads self.new.gate (D.content disk.new).reading ≡ payloads self.old.gate (D.content disk.old).reading ++ F.Region.word region ∷ []) }
         ensures slot { self.new.gate.slot ≡ self.old.gate.slot }
+        ensures same { IfErr result (λ e. IsOfDisk e → F.value self.new.held ≡ F.value self.old.held) }
     {
         self.word.clear();
         region.write(&mut self.word)?;

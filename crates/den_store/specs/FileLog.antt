@@ -3,6 +3,7 @@ use Rattle.std.specs.Prelude.{ℕ}
 use Rattle.den_disk.specs.declared.place.Family.TheVariants.{Log as log_family}
 use Rattle.den_disk.specs.Place.{place_number}
 use Rattle.den_model.specs.Log.{Log, empty_log, log_from}
+use Rattle.den_model.specs.Sizes.{entries_size}
 use Rattle.den_journal.specs.Lies.{Lies, gives_own, gives_hold, held_own}
 use Rattle.den_journal.specs.Shown.{Held, Shown, shown_of, held_in}
 use Rattle.den_store.specs.declared.log_store.FileLogStore.{FileLogStore}
@@ -10,7 +11,7 @@ use Rattle.den_store.specs.Held.{log_of}
 
 -- its log, and what else is seen of it
 abbrev pub log_shown : FileLogStore → Shown Log
-log_shown s = shown_of log_family (log_from empty_log) s.journal.failed s.journal.gate (log_of s.journal.held)
+log_shown s = shown_of log_family (log_from empty_log) (λ l. entries_size l.entries) s.journal.failed s.journal.gate (log_of s.journal.held)
 
 -- the number of the slot that it uses
 abbrev pub file_place : FileLogStore → ℕ

@@ -9,7 +9,7 @@ use Rattle.den_store.specs.declared.meta_store.FileMetaStore.{FileMetaStore}
 
 -- its last hard state, and what else is seen of it
 abbrev pub meta_shown : FileMetaStore → Shown (Option HardState)
-meta_shown s = shown_of meta_family (hard_state_from None) s.journal.failed s.journal.gate s.journal.held.last
+meta_shown s = shown_of meta_family (hard_state_from None) (λ h. 0) s.journal.failed s.journal.gate s.journal.held.last
 
 -- what files give of hard states, which is told
 abbrev pub state_held : Held (Option HardState)

@@ -1,5 +1,5 @@
 -- The log's regions and those of the hard state, as folds.
-use Rattle.std.proofs.Common.{◌≡◌, ℕ, ◌+◌, ◌≤◌, true, false, List, [], ◌∷◌, ◌++◌, length, Option, Some, None, Result, Err, refl, ap, ◌∙◌, arith, length-append}
+use Rattle.std.proofs.Common.{◌≡◌, ℕ, ◌+◌, ◌*◌, ◌≤◌, true, false, List, [], ◌∷◌, ◌++◌, length, Option, Some, None, Result, Err, refl, ap, ◌∙◌, arith, length-append}
 use Rattle.std.specs.List.{flat_map}
 use Rattle.den_model.proofs.Numbers.{length_u64_word}
 use Rattle.std.proofs.lemmas.Bool.{cond-true, cond-false}
@@ -53,8 +53,35 @@ words_size (e ∷ es) = omega (arith, length-append (entry_word e) (flat_map ent
 pub append_size : (es : List LogEntry) → length (log_region_word (Append es)) ≡ 9 + entries_size es
 append_size es = omega (arith, length-append (u64_word (length es)) (flat_map entry_word es), length_u64_word (length es), words_size es)
 
--- a region is no larger than what a store that is handed its entries may write
-pub log_rises : (r : LogRegion) → 9 + length (log_region_word r) ≤ store_rise (entries_size (entries_of r))
+size_append : (es fs : List LogEntry) → entries_size (es ++ fs) ≡ entries_size es + entries_size fs
+size_append [] fs = omega arith
+size_append (e ∷ es) fs = omega (arith, size_append es fs)
+
+size_filter : (p : LogEntry → Bool) (es : List LogEntry) → entries_size (filter p es) ≤ entries_size es
+size_filter p [] = omega arith
+size_filter p (e ∷ es) = elim (cases_Bool (p e)) [
+  | inl pass ↦ rw (cond-true (p e) (e ∷ filter p es) (filter p es) pass) (omega (arith, size_filter p es))
+  | inr fail ↦ rw (cond-false (p e) (e ∷ filter p es) (filter p es) fail) (omega (arith, size_filter p es))
+]
+
+replaced_size : (l : Log) (from : ℕ) (es : List LogEntry) → entries_size (replaced l from es).entries ≤ entries_size l.entries + entries_size es
+replaced_size l from es = omega (arith, size_append (below from l.entries) es, size_filter (λ e. nat_lt e.index from) l.entries)
+
+-- a region makes no entries greater by more than its word
+pub changed_size : (l : Log) (r : LogRegion) → entries_size (changed l r).entries ≤ entries_size l.entries + length (log_region_word r)
+changed_size l (Append []) = omega arith
+changed_size l (Append (e ∷ es)) = omega (arith, replaced_size l e.index (e ∷ es), append_size (e ∷ es))
+changed_size l (Truncate from) = omega (arith, size_filter (λ e. nat_lt e.index from) l.entries)
+changed_size l (Purge index term) = elim (cases_Bool (nat_lt (floor l) index)) [
+  | inl more ↦ rw more (omega (arith, size_filter (λ e. nat_lt index e.index) l.entries))
+  | inr same ↦ rw same (omega arith)
+]
+changed_size l (Replace r) =
+    omega (arith, replaced_size l r.from r.entries, length-append (u64_word r.from) (u64_word (length r.entries) ++ flat_map entry_word r.entries), length-append (u64_word (length r.entries)) (flat_map entry_word r.entries), words_size r.entries)
+changed_size l Reset = omega arith
+
+-- twice a region is no larger than what a store that is handed its entries may write
+pub log_rises : (r : LogRegion) → 9 + 2 * length (log_region_word r) ≤ store_rise (entries_size (entries_of r))
 log_rises (Append es) = omega (arith, append_size es)
 log_rises (Truncate from) = omega (arith, length_u64_word from)
 log_rises (Purge index term) = omega (arith, length-append (u64_word index) (u64_word term), length_u64_word index, length_u64_word term)
@@ -97,5 +124,5 @@ state_unread h p is = ap (λ (o : Option HardState). elim o [ None ↦ None | So
 pub state_again : (h : Option HardState) (g : HardState) → FitsHardState g → state_after h (hard_state_word g) ≡ Some (Some g)
 state_again h g fits = state_read h (hard_state_word g) g (hard_state_again g fits)
 
-pub state_rises : (g : HardState) → 9 + length (hard_state_word g) ≤ store_rise (length (hard_state_word g))
+pub state_rises : (g : HardState) → 9 + 2 * length (hard_state_word g) ≤ store_rise (length (hard_state_word g))
 state_rises g = omega arith

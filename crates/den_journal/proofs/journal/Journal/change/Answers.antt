@@ -1,19 +1,28 @@
-use Rattle.std.proofs.Common.{◌≡◌, ◌≤◌, ◌+◌, ℕ, List, [], ◌∷◌, ◌++◌, length, IsTrue, Some, Ok, Option, refl, ◌∙◌, sym, ap, subst, arith}
+use Rattle.std.proofs.Common.{◌≡◌, ◌≤◌, ◌+◌, ℕ, List, [], ◌∷◌, ◌++◌, length, IsTrue, Some, Ok, inl, max, ◌*◌, refl, ◌∙◌, sym, ap, subst, arith}
 use Rattle.den_disk.specs.declared.place.Place.{Place}
-use Rattle.den_disk.specs.Files.{Files, Kind}
+use Rattle.den_disk.specs.Files.{Kind}
 use Rattle.den_codec.specs.declared.error.Error.{Error}
 use Rattle.den_model.specs.Regions.{placed}
+use Rattle.den_model.specs.Image.{slot_of}
 use Rattle.den_gate.specs.Gate.{payloads}
 use Rattle.den_journal.specs.Lies.{gives_hold}
 use Rattle.den_gate.specs.Slot.{room_for}
 use Rattle.den_journal.specs.Journals.{region_change}
 use Rattle.den_journal.specs.Refused.{refusal}
-use Rattle.den_journal.specs.Shown.{shown_of, held_in}
+use Rattle.den_journal.specs.Causes.{IsRoomOf, IsTooShort}
+use Rattle.den_journal.specs.Shown.{shown_of, held_in, rewrite_size}
 use Rattle.den_journal.specs.Writes.{IsRefused}
 use Rattle.den_journal.proofs.Full.{refused_by, short_in_use}
 use Rattle.den_journal.proofs.Joins.{grows}
 use Rattle.den_journal.proofs.Moving.{moves_by, writes_lost, writes_refused}
 use Rattle.den_journal.proofs.journal.Journal.change.Goals as goal
+
+-- a region more, and the value that grew by no more than its word
+changed_weight : (end now size more word rise : ℕ) → now ≡ end + (9 + word) → more ≤ size + word → 9 + 2 * word ≤ rise → max now (rewrite_size more) ≤ max end (rewrite_size size) + rise
+changed_weight end now size more word rise is le rises = omega arith
+
+room_in : (needed end word size rise : ℕ) → needed ≡ room_for end word → word ≤ rise → IsRoomOf (max end (rewrite_size size) + rise) needed
+room_in needed end word size rise is le = record { size = end + word; within = omega arith; room = omega arith }
 
 pub returns-in_err-write-clause-writes : goal.returns-in_err-write-clause-writes
 returns-in_err-write-clause-writes g c =
@@ -37,7 +46,7 @@ returns-in_err-make_room-clause-writes g c =
     (λ tells. let r = c.requires.stands.rests tells in
     record { family_is = r.family_is; at_rest = r.at_rest; current = r.current; means = r.means ∙ ap (λ x. Ok x) (sym c.make_room.ensures.same) })
     (λ tells told files i. gives_hold F.FAMILY (F.from F.empty) j.gate v (D.content d) files (c.requires.stands.rests tells) ((g.met.D.Disk.images_now d files tells).0 i))
-    c.from_residual-in_err-make_room.result c.from_residual-in_err-make_room.ensures.1 c.make_room.ensures.same refl
+    c.from_residual-in_err-make_room.result c.from_residual-in_err-make_room.ensures.1 c.make_room.ensures.same (ap (λ x. max j.gate.end (rewrite_size (F.size x))) c.make_room.ensures.same)
 
 pub returns-in_ok-settle-in-Ok-clause-writes : goal.returns-in_ok-settle-in-Ok-clause-writes
 returns-in_ok-settle-in-Ok-clause-writes g c =
@@ -60,7 +69,8 @@ returns-in_ok-settle-in-Ok-clause-writes g c =
           (c.append.ensures.family tells r.current) (c.append.ensures.images tells) (c.append.ensures.others tells);
       done = record {
         value = value;
-        weight = omega (arith, c.in-Ok.ensures.end, ap length word, g.met.F.Folded.rises c.args.region);
+        weight = changed_weight j.gate.end c.append.new.self.end (F.size v) (F.size (F.value c.settle.new.self)) (length p) (F.rise c.args.region) c.in-Ok.ensures.end
+            (omega (arith, ap F.size value, ap length word, g.met.F.Folded.sized v c.args.region c.requires.lawful c.in_ok-write.ensures.fits)) (subst (λ x. 9 + 2 * length x ≤ F.rise c.args.region) (sym word) (g.met.F.Folded.rises c.args.region));
         ready = (refl, c.in-Ok.ensures.ready);
         rests = λ tells. let r = c.requires.stands.rests tells in
             record {
@@ -116,13 +126,14 @@ returns-in-Err-clause-writes g c =
     let w = F.changed v c.args.region in
     let p = c.as_slice.result.now in
     let list = payloads j.gate (D.content d).reading in
-    let was = shown_of F.FAMILY (F.from F.empty) j.failed j.gate v in
-    let now = shown_of F.FAMILY (F.from F.empty) j.failed c.append.new.self (F.value c.make_room.new.self) in
+    let was = shown_of F.FAMILY (F.from F.empty) F.size j.failed j.gate v in
+    let now = shown_of F.FAMILY (F.from F.empty) F.size j.failed c.append.new.self (F.value c.make_room.new.self) in
     let word : p ≡ g.F.Region.Word.word c.args.region = c.as_slice.ensures.value ∙ c.in_ok-write.ensures.ok ∙ ap (λ (x : List ℕ). x ++ g.F.Region.Word.word c.args.region) c.clear.ensures.items in
     let next : F.after v p ≡ Some w = ap (F.after v) word ∙ g.met.F.Folded.again v c.args.region c.requires.lawful c.in_ok-write.ensures.fits in
     let change = region_change F v c.args.region (g.F.Region.Word.word c.args.region) in
     let held = held_in F.FAMILY (F.from F.empty) in
-    let size : length p ≡ change.size = ap length word in
+    let size : length p ≡ length (g.F.Region.Word.word c.args.region) = ap length word in
+    let rises = g.met.F.Folded.rises c.args.region in
     record {
       goes_on = c.append.ensures.disk;
       moves = λ tells. let r = c.requires.stands.rests tells in
@@ -130,14 +141,13 @@ returns-in-Err-clause-writes g c =
           (c.append.ensures.family tells r.current) (c.append.ensures.images tells) (c.append.ensures.others tells);
       done = tt;
       refused = subst (λ (e : Error). IsRefused D was now d new F.FAMILY held change e) (sym (c.refusal.ensures ∙ ap (λ f. refusal f c.in-Err.error) c.FAMILY.ensures))
-          (refused_by D was now d new F.FAMILY held change _ c.in-Err.error (λ ready. absurd (cc (c.in-Err.ensures.failed refl, ready.1))) c.make_room.ensures.same (omega (arith, g.met.F.Folded.rises c.args.region))
+          (refused_by D was now d new F.FAMILY held change _ c.in-Err.error (λ ready. absurd (cc (c.in-Err.ensures.failed refl, ready.1))) (inl c.make_room.ensures.same)
+          (λ needed limit h. (h.1, h.2, h.3))
           (λ needed limit h. (
-            h.0 ∙ ap (room_for j.gate.end) size,
-            h.1,
-            h.2,
-            h.3,
-            λ tells. let r = c.requires.stands.rests tells in
-                short_in_use F.FAMILY j.gate.slot (D.content d) j.gate.end (length p) change.size r.family_is r.current size (h.5 tells).0,
+            room_in needed j.gate.end (length p) (F.size v) (F.rise c.args.region) h.0 (omega (arith, size, rises)),
+            λ t. let r = c.requires.stands.rests t.0 in
+                inl (subst (λ k. IsTooShort (slot_of F.FAMILY k.reading) change.adds needed k.reading) (sym (h.5 t.0).1.content_same)
+                (short_in_use F.FAMILY j.gate (D.content d) needed (length p) change.adds r.family_is r.at_rest r.current size h.0 (h.5 t.0).0)),
           )) c.in-Err.ensures.refused);
     }
 

@@ -1,10 +1,10 @@
-use Rattle.std.proofs.Common.{◌≡◌, [], IsTrue, refl, sym, subst}
+use Rattle.std.proofs.Common.{◌≡◌, ℕ, max, [], refl, sym, ap, subst}
 use Rattle.den_codec.specs.declared.error.Error.{Error}
 use Rattle.den_codec.specs.declared.error.Error.TheVariants.{StorageIoError}
 use Rattle.den_disk.specs.Goes.{Rose}
 use Rattle.den_gate.proofs.Families.{all_own}
 use Rattle.den_journal.specs.Lies.{gives_as, gives_hold, gives_own}
-use Rattle.den_journal.specs.Shown.{held_in}
+use Rattle.den_journal.specs.Shown.{held_in, rewrite_size}
 use Rattle.den_journal.proofs.Full.{sync_refused}
 use Rattle.den_journal.proofs.Moving.{moves_not}
 use Rattle.den_journal.proofs.journal.Journal.flush.Goals as goal
@@ -29,7 +29,7 @@ returns-in-Ok g c =
           refused = tt;
         };
         same_value = refl;
-        same_weight = c.flush.ensures.end;
+        same_weight = ap (λ (n : ℕ). max n (rewrite_size (F.size v))) c.flush.ensures.end;
         ready = (c.requires.stands.ready.0, c.in-Ok.ensures.ready);
         rests = λ tells.
             gives_as F.FAMILY (F.from F.empty) gate c.flush.new.self v (D.content new) c.flush.ensures.slot c.flush.ensures.end
@@ -59,7 +59,7 @@ returns-in-Err g c =
           refused = subst (λ (e : Error). (e ≡ StorageIoError) × rose) (sym c.refusal.ensures) (sync_refused rose _ c.in-Err.error c.in-Err.ensures.refused);
         };
         same_value = refl;
-        same_weight = c.flush.ensures.end;
+        same_weight = ap (λ (n : ℕ). max n (rewrite_size (F.size v))) c.flush.ensures.end;
         ready = tt;
         rests = tt;
         failed = λ ready. absurd (cc (c.in-Err.ensures.failed refl, ready.1));

@@ -1,4 +1,4 @@
-use Rattle.std.proofs.Common.{◌≡◌, refl, ℕ, ◌≤◌, IsTrue, Err, ◌∙◌, sym, ap, subst, arith}
+use Rattle.std.proofs.Common.{◌≡◌, refl, ℕ, ◌≤◌, max, IsTrue, Err, ◌∙◌, sym, ap, subst, arith}
 use Rattle.den_disk.specs.declared.place.Family.{Family}
 use Rattle.den_disk.specs.declared.place.Part.{Part}
 use Rattle.den_disk.specs.declared.place.Place.{Place}
@@ -6,9 +6,10 @@ use Rattle.den_disk.specs.Files.{Content, Kind}
 use Rattle.den_disk.specs.Place.{place_number}
 use Rattle.den_disk.specs.Goes.{Rose}
 use Rattle.den_model.specs.Image.{slot_of, in_regions}
+use Rattle.den_model.specs.Sizes.{family_size}
 use Rattle.den_journal.specs.Folding.{IsUnread}
 use Rattle.den_journal.specs.Opening.{IsLoaded}
-use Rattle.den_journal.specs.Shown.{Gives}
+use Rattle.den_journal.specs.Shown.{Gives, rewrite_size}
 use Rattle.den_journal.proofs.Full.{loaded_weight}
 use Rattle.den_journal.proofs.Opens.{loaded_meaning, unread_weaker, handed_on, not_opened, reads_on, reads_images, reads_spares, reads_settled}
 use Rattle.den_journal.proofs.journal.Journal.open.Goals as goal
@@ -47,6 +48,9 @@ returns-in_err-held-clause-opens g c =
           c.in_err-held.ensures.refused);
     }
 
+opened_weight : (end size found : ℕ) → end ≡ found → size ≤ end → max end (rewrite_size size) ≤ rewrite_size found
+opened_weight end size found is le = omega arith
+
 pub returns-clause-opens : goal.returns-clause-opens
 returns-clause-opens g c =
     let F = g.F.Folded in
@@ -69,7 +73,7 @@ returns-clause-opens g c =
       opened = record {
         ready = (refl, c.in_ok-gate.ensures.ready);
         value = λ tells. loaded_meaning family (F.from F.empty) gate old mid (is_loaded tells) (c.load.ensures.spares tells) ∙ c.in_ok-held.ensures.read (on tells);
-        weight = λ tells. loaded_weight family gate old mid (is_loaded tells) (c.load.ensures.spares tells);
+        weight = λ tells. opened_weight gate.end (F.size value) (family_size family old.reading) (loaded_weight family gate old mid (is_loaded tells) (c.load.ensures.spares tells)) (c.in_ok-held.ensures.size (on tells));
         rests = λ tells. let is = is_loaded tells in
             let gives : Gives family (F.from F.empty) gate value mid = record {
               family_is = c.in_ok-gate.ensures.family ∙ c.FAMILY.ensures;
