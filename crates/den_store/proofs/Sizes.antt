@@ -1,4 +1,4 @@
--- What a log's entries and words come to in bytes, and that a disk is told to be full only of what it was given.
+-- What a log's entries come to in bytes behind a region's word.
 use Rattle.std.proofs.Common.{◌≡◌, ℕ, ◌+◌, ◌≤◌, inl, inr, Bool, List, [], ◌∷◌, ◌++◌, length, Some, ap, arith, length-append}
 use Rattle.std.specs.Prelude.{nat_lt}
 use Rattle.std.specs.List.{filter, flat_map}
@@ -13,7 +13,7 @@ use Rattle.den_model.specs.Spelling.{u64_word, entry_word, log_region_word}
 use Rattle.den_model.specs.Sizes.{entries_size}
 use Rattle.den_model.proofs.Spells.{word_iff}
 use Rattle.den_model.proofs.RegionSpells.{spells_log_region}
-use Rattle.den_store.specs.Folds.{words_size, append_size}
+use Rattle.den_store.specs.Folds.{changed_size}
 
 pub region_size : (l : Log) (p : List ℕ) (r : LogRegion) → IsBytes p → log_region_in p ≡ Some r → entries_size (changed l r).entries ≤ entries_size l.entries + length p
 unfolding log_region_in

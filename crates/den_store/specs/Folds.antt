@@ -1,14 +1,15 @@
 -- The log's regions and those of the hard state, as folds.
-use Rattle.std.proofs.Common.{◌≡◌, ℕ, ◌+◌, ◌*◌, ◌≤◌, true, false, List, [], ◌∷◌, ◌++◌, length, Option, Some, None, Result, Err, refl, ap, ◌∙◌, arith, length-append}
-use Rattle.std.specs.List.{flat_map}
+use Rattle.std.proofs.Common.{◌≡◌, ℕ, ◌+◌, ◌*◌, ◌≤◌, inl, inr, Bool, true, false, List, [], ◌∷◌, ◌++◌, length, Option, Some, None, Result, Err, refl, ap, ◌∙◌, arith, length-append}
+use Rattle.std.specs.Prelude.{nat_lt}
+use Rattle.std.specs.List.{filter, flat_map}
 use Rattle.den_model.proofs.Numbers.{length_u64_word}
-use Rattle.std.proofs.lemmas.Bool.{cond-true, cond-false}
+use Rattle.std.proofs.lemmas.Bool.{cond-true, cond-false, cases_Bool}
 use Rattle.den_model.specs.declared.region.LogRegion.{LogRegion}
 use Rattle.den_model.specs.declared.region.LogRegion.TheVariants.{Append, Truncate, Purge, Replace, Reset}
 use Rattle.den_model.specs.declared.log_id.HardState.{HardState}
 use Rattle.den_model.specs.Entries.{LogEntry}
 use Rattle.den_model.specs.Regions.{Region}
-use Rattle.den_model.specs.Log.{Log, is_lawful, changed, log_from, log_after, log_after_payload}
+use Rattle.den_model.specs.Log.{Log, floor, below, is_lawful, changed, replaced, log_from, log_after, log_after_payload}
 use Rattle.den_model.specs.Spelling.{u64_word, entry_word, log_region_word, hard_state_word}
 use Rattle.den_model.specs.Words.{FitsLogRegion, FitsHardState}
 use Rattle.den_model.proofs.RoundTrips.{log_region_again, hard_state_again}
@@ -126,3 +127,6 @@ state_again h g fits = state_read h (hard_state_word g) g (hard_state_again g fi
 
 pub state_rises : (g : HardState) → 9 + 2 * length (hard_state_word g) ≤ store_rise (length (hard_state_word g))
 state_rises g = omega arith
+
+pub state_sized : (g : HardState) → 0 ≤ 0 + length (hard_state_word g)
+state_sized g = omega arith

@@ -140,12 +140,12 @@ impl HeldLog {
 }
 
 impl Folded for HeldLog {
-    ghost use Rattle.std.specs.Prelude.{ℕ};
+    ghost use Rattle.std.specs.Prelude.{ℕ, refl};
     ghost use Rattle.den_disk.specs.declared.place.Family.TheVariants.{Log as log_family};
     ghost use Rattle.den_model.specs.Log.{Log, log_from, log_after_payload};
     ghost use Rattle.den_model.specs.Sizes.{entries_size, store_rise};
     ghost use Rattle.den_store.specs.Held.{log_of};
-    ghost use Rattle.den_store.specs.Folds.{logs_fold, log_again, log_rises};
+    ghost use Rattle.den_store.specs.Folds.{changed_size, logs_fold, log_again, log_rises};
 
     type Region = LogRegion;
 
@@ -175,11 +175,19 @@ impl Folded for HeldLog {
 
     ghost size = { λ l. entries_size l.entries };
 
+    ghost renewed = { λ l. l };
+
     ghost folds = { logs_fold };
 
     ghost again = { log_again };
 
     ghost rises = { log_rises };
+
+    ghost none = { refl };
+
+    ghost sized = { λ l r lawful fits. changed_size l r };
+
+    ghost anew = { λ l. refl };
 
     fn empty(alloc: Global) -> HeldLog {
         HeldLog {
@@ -225,6 +233,8 @@ impl Folded for HeldLog {
         }
         Ok(())
     }
+
+    fn renew(&mut self) {}
 }
 
 // How many of these entries, which rise, have an index below this one.

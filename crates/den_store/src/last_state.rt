@@ -12,14 +12,14 @@ pub(crate) struct LastState {
 }
 
 impl Folded for LastState {
-    ghost use Rattle.std.specs.Prelude.{ℕ, Option, None, length};
+    ghost use Rattle.std.specs.Prelude.{ℕ, Option, None, length, refl};
     ghost use Rattle.den_disk.specs.declared.place.Family.TheVariants.{Meta as meta_family};
     ghost use Rattle.den_model.specs.declared.log_id.HardState.{HardState};
     ghost use Rattle.den_model.specs.Image.{hard_state_from};
     ghost use Rattle.den_model.specs.Sizes.{store_rise};
     ghost use Rattle.den_model.specs.Spelling.{hard_state_word};
     ghost use Rattle.den_store.specs.LastState.{state_after};
-    ghost use Rattle.den_store.specs.Folds.{states_fold, state_again, state_rises};
+    ghost use Rattle.den_store.specs.Folds.{states_fold, state_again, state_rises, state_sized};
 
     type Region = HardState;
 
@@ -49,11 +49,19 @@ impl Folded for LastState {
 
     ghost size = { λ last. 0 };
 
+    ghost renewed = { λ last. last };
+
     ghost folds = { states_fold };
 
     ghost again = { λ last state lawful fits. state_again last state fits };
 
     ghost rises = { state_rises };
+
+    ghost none = { refl };
+
+    ghost sized = { λ last state lawful fits. state_sized state };
+
+    ghost anew = { λ last. refl };
 
     fn empty(_alloc: Global) -> LastState {
         LastState { last: None }
@@ -75,4 +83,6 @@ impl Folded for LastState {
         self.last = Some(state);
         Ok(())
     }
+
+    fn renew(&mut self) {}
 }

@@ -1,11 +1,14 @@
-use Rattle.std.proofs.Common.{◌≤◌, ◌+◌, List, length, Some, None, refl, ◌∙◌, sym, ap, arith}
+use Rattle.std.proofs.Common.{◌≡◌, ◌≤◌, ◌+◌, List, length, Some, None, refl, ◌∙◌, sym, ap, subst, arith}
 use Rattle.std.specs.Prelude.{◌&&◌, nat_le, if◌then◌else◌}
 use Rattle.den_disk.specs.declared.place.Family.TheVariants.{Log as log_family}
 use Rattle.den_model.specs.Entries.{LogEntry, rise_from}
 use Rattle.den_model.specs.Log.{floor}
+use Rattle.den_model.specs.declared.region.LogRegion.TheVariants.{Append}
+use Rattle.den_journal.specs.Writes.{Writes}
 use Rattle.den_journal.proofs.Moving.{writes_nothing, writes_refused}
 use Rattle.den_store.specs.Held.{log_of}
-use Rattle.den_store.specs.FileLog.{log_held, log_lies}
+use Rattle.den_store.specs.Changes.{log_change}
+use Rattle.den_store.specs.FileLog.{log_held, log_lies, log_shown}
 use Rattle.den_store.proofs.HeldLogs.{append_made, append_none, none_there, some_there}
 use Rattle.den_store.proofs.Rising.{rise_from_lower}
 use Rattle.den_store.proofs.log_store.FileLogStoreLogStore.persist_entries.Goals as goal
@@ -35,3 +38,15 @@ unreachable-requires g c =
     let made = append_made es some (rise_from_lower 1 (floor (log_of c.args.self.now.journal.held) + 1) es (omega arith) c.requires.rise) in
     let given = c.of-2.ensures ∙ ap (λ (xs : List LogEntry). if nat_le 1 (length xs) && rise_from 1 xs then Some xs else None) (c.of.ensures ∙ c.in_ok-copies.ensures) ∙ made in
     absurd (cc (given, c.in-None.is))
+
+pub returns-clause-writes : goal.returns-clause-writes
+returns-clause-writes g c =
+    let s = c.args.self.now in
+    let es = c.args.entries.now in
+    let some = some_there es (sym c.is_empty.ensures ∙ c.if-is_empty.false) in
+    let made = append_made es some (rise_from_lower 1 (floor (log_of s.journal.held) + 1) es (omega arith) c.requires.rise) in
+    let given = c.of-2.ensures ∙ ap (λ (xs : List LogEntry). if nat_le 1 (length xs) && rise_from 1 xs then Some xs else None) (c.of.ensures ∙ c.in_ok-copies.ensures) ∙ made in
+    let same : c.in-Some.entries ≡ es = cc (given, c.in-Some.is) in
+    subst (λ (xs : List LogEntry).
+    Writes g.D.Disk (log_shown s) (log_shown (record { alloc = s.alloc; journal = c.change.new.self })) c.args.disk.now c.change.new.disk log_family log_held
+    (log_change (log_of s.journal.held) (Append xs)) c.change.result) same c.change.ensures.writes
