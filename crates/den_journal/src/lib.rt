@@ -14,8 +14,9 @@
 //! 3. A crash at any moment of a call leaves the family's files to give one of the values that the call names, and the
 //!    files of the other families as a crash before the call might have left them: `Moves` in specs/Writes.antt. Of the
 //!    first a store may say nothing (`told` of `Held` in specs/Shown.antt); a journal always tells.
-//! 4. The weight is the bytes of the regions in use. A full disk is told the room that the refused region needs behind
-//!    them: `full` of `IsRefused`.
+//! 4. The weight is the bytes that the regions take, or would take when written anew, at most: the greater of the slot's end
+//!    and a bound by the value's size (`shown_of`), so a rewrite makes nothing heavier. A full disk is told the room that one
+//!    of the family's two slots needs for a payload that the call may put there: `full` of `IsRefused`.
 //! 5. Memory is taken before the region is written. A value that takes memory behind the write, too, says so (`lost`), and a
 //!    journal that wants it then has failed: `untouched` of `IsRefused`.
 //!

@@ -1,15 +1,9 @@
 -- What a log's entries come to in bytes behind a region's word.
-use Rattle.std.proofs.Common.{◌≡◌, ℕ, ◌+◌, ◌≤◌, inl, inr, Bool, List, [], ◌∷◌, ◌++◌, length, Some, ap, arith, length-append}
-use Rattle.std.specs.Prelude.{nat_lt}
-use Rattle.std.specs.List.{filter, flat_map}
-use Rattle.std.proofs.lemmas.Bool.{cond-true, cond-false, cases_Bool}
+use Rattle.std.proofs.Common.{◌≡◌, ℕ, ◌+◌, ◌≤◌, List, length, Some, ap, arith}
 use Rattle.den_model.specs.declared.region.LogRegion.{LogRegion}
-use Rattle.den_model.specs.declared.region.LogRegion.TheVariants.{Append, Truncate, Purge, Replace, Reset}
-use Rattle.den_model.specs.Entries.{LogEntry}
-use Rattle.den_model.specs.Log.{Log, floor, below, changed, replaced}
+use Rattle.den_model.specs.Log.{Log, changed}
 use Rattle.den_model.specs.Reading.{log_region_in}
 use Rattle.den_model.specs.Words.{IsBytes}
-use Rattle.den_model.specs.Spelling.{u64_word, entry_word, log_region_word}
 use Rattle.den_model.specs.Sizes.{entries_size}
 use Rattle.den_model.proofs.Spells.{word_iff}
 use Rattle.den_model.proofs.RegionSpells.{spells_log_region}

@@ -7,6 +7,7 @@ ghost use Rattle.den_model.specs.Entries.{rise_from};
 ghost use Rattle.den_model.specs.Log.{Log, between, floor, last_index};
 ghost use Rattle.den_model.specs.declared.region.LogRegion.TheVariants.{Append, Purge, Replace, Reset, Truncate};
 ghost use Rattle.den_model.specs.declared.log_id.HardState.{HardState};
+ghost use Rattle.den_journal.specs.Causes.{IsOfDisk};
 ghost use Rattle.den_journal.specs.Lies.{Lies};
 ghost use Rattle.den_journal.specs.Shown.{Held, Shown};
 ghost use Rattle.den_journal.specs.Writes.{Ends, Stands, Syncs, Writes};
@@ -35,6 +36,7 @@ pub trait LogStore<D: Disk>: Drop {
         requires rise { rise_from (floor (shown self.old).value + 1) entries.now ≡ true }
         ensures writes { Writes D.Disk (shown self.old) (shown self.new) disk.old disk.new log_family holds
             (log_change (shown self.old).value (Append entries.now)) result }
+        ensures same { IfErr result (λ e. IsOfDisk e → (shown self.new).value ≡ (shown self.old).value) }
         ensures nothing { entries.now ≡ [] → disk.new ≡ disk.old };
 
     /// Takes out the entries up to a cutoff, which becomes the boundary, where its index is above the boundary's. A
@@ -43,13 +45,15 @@ pub trait LogStore<D: Disk>: Drop {
         requires stands { Stands D.Disk (shown self.old) disk.old }
         ensures writes { Writes D.Disk (shown self.old) (shown self.new) disk.old disk.new log_family holds
             (log_change (shown self.old).value (Purge cutoff.index cutoff.term)) result }
+        ensures same { IfErr result (λ e. IsOfDisk e → (shown self.new).value ≡ (shown self.old).value) }
         ensures nothing { cutoff.index ≤ floor (shown self.old).value → disk.new ≡ disk.old };
 
     /// Takes out the entries from an index on. A crash inside leaves the old log or the new one.
     fn truncate(&mut self, disk: &mut D, from_index: u64) -> Result<(), Error>
         requires stands { Stands D.Disk (shown self.old) disk.old }
         ensures writes { Writes D.Disk (shown self.old) (shown self.new) disk.old disk.new log_family holds
-            (log_change (shown self.old).value (Truncate from_index)) result };
+            (log_change (shown self.old).value (Truncate from_index)) result }
+        ensures same { IfErr result (λ e. IsOfDisk e → (shown self.new).value ≡ (shown self.old).value) };
 
     /// Puts entries in place of those from an index on, as one change. A crash inside leaves the old log or the new one.
     fn replace_range(
@@ -62,13 +66,15 @@ pub trait LogStore<D: Disk>: Drop {
         requires above { IfSome (shown self.old).value.boundary (λ b. b.index < from_index) }
         requires rise { rise_from from_index new_entries.now ≡ true }
         ensures writes { Writes D.Disk (shown self.old) (shown self.new) disk.old disk.new log_family holds
-            (log_change (shown self.old).value (Replace (record { from = from_index; entries = new_entries.now }))) result };
+            (log_change (shown self.old).value (Replace (record { from = from_index; entries = new_entries.now }))) result }
+        ensures same { IfErr result (λ e. IsOfDisk e → (shown self.new).value ≡ (shown self.old).value) };
 
     /// Takes out all entries and the boundary. A crash inside leaves the old log or the empty one.
     fn reset(&mut self, disk: &mut D) -> Result<(), Error>
         requires stands { Stands D.Disk (shown self.old) disk.old }
         ensures writes { Writes D.Disk (shown self.old) (shown self.new) disk.old disk.new log_family holds
-            (log_change (shown self.old).value Reset) result };
+            (log_change (shown self.old).value Reset) result }
+        ensures same { IfErr result (λ e. IsOfDisk e → (shown self.new).value ≡ (shown self.old).value) };
 
     /// Puts all files on the disk. It takes no memory.
     fn flush(&mut self, disk: &mut D) -> Result<(), Error>
@@ -130,7 +136,8 @@ pub trait MetaStore<D: Disk>: Drop {
     fn save_hard_state(&mut self, disk: &mut D, state: &HardState) -> Result<(), Error>
         requires stands { Stands D.Disk (shown self.old) disk.old }
         ensures writes { Writes D.Disk (shown self.old) (shown self.new) disk.old disk.new meta_family holds
-            (state_change state.now) result };
+            (state_change state.now) result }
+        ensures same { IfErr result (λ e. IsOfDisk e → (shown self.new).value ≡ (shown self.old).value) };
 
     /// Puts all files on the disk. It takes no memory.
     fn flush(&mut self, disk: &mut D) -> Result<(), Error>

@@ -8,15 +8,13 @@ use Rattle.den_store.specs.FileLog.{log_held, log_lies}
 use Rattle.den_store.proofs.HeldLogs.{above_lawful, made_of}
 use Rattle.den_store.proofs.log_store.FileLogStoreLogStore.replace_range.Goals as goal
 
-pub returns-in_err-copies : goal.returns-in_err-copies
-returns-in_err-copies g c =
+pub returns-in_err-copies-clause-writes : goal.returns-in_err-copies-clause-writes
+returns-in_err-copies-clause-writes g c =
     let s = c.requires.stands in
     let d = c.args.disk.now in
-    record {
-      writes = writes_refused g.D.Disk log_family log_held _ _ _ d s.ready s.rests
-          (λ tells told files i. log_lies.rests_hold told c.args.self.now (g.D.Disk.content d) files s.ready (s.rests tells) ((g.met.D.Disk.images_now d files tells).0 i))
-          c.from_residual.result c.from_residual.ensures.1 refl refl;
-    }
+    writes_refused g.D.Disk log_family log_held _ _ _ d s.ready s.rests
+    (λ tells told files i. log_lies.rests_hold told c.args.self.now (g.D.Disk.content d) files s.ready (s.rests tells) ((g.met.D.Disk.images_now d files tells).0 i))
+    c.from_residual.result c.from_residual.ensures.1 refl refl
 
 pub change-requires-clause-lawful : goal.change-requires-clause-lawful
 change-requires-clause-lawful g c =
