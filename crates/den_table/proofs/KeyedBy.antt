@@ -2,7 +2,7 @@
 use Rattle.std.proofs.Common.{◌≡◌, ℕ, Bool, true, false, cond, filter, List, [], ◌∷◌, Option, Some, None, refl, sym, ap}
 use Rattle.std.specs.Prelude.{◌&&◌, IfSome}
 use Rattle.std.specs.Global.{Vec}
-use Rattle.std.specs.Ordering.{is_eq, is_le, match_ordering}
+use Rattle.std.specs.Ordering.{is_eq, is_le, is_lt, match_ordering}
 use Rattle.std.specs.declared.cmp.Ordering.TheVariants.{Less, Equal, Greater}
 use Rattle.std.specs.Map.{lookup, remove_entry}
 use Rattle.std.specs.BTreeMap.{insert_entry}
@@ -49,6 +49,22 @@ keyed_from {X} k (e ∷ es) =
       | true ↦ ap (λ (t : Table X). (e.0.items, e.1) ∷ t) (keyed_from k es)
       | false ↦ keyed_from k es
     ]
+
+-- the keys above one, by bounds of which only the first is given
+pub keyed_behind : {X : Type 0} (k : List ℕ) (es : List (Vec ℕ × X)) → keyed (filter (λ e. is_lt (by_bytes k e.0.items) && true) es) ≡ filter (λ e. is_lt (by_bytes k e.0)) (keyed es)
+keyed_behind k [] = refl
+keyed_behind {X} k (e ∷ es) =
+    let rest = filter (λ (e : Vec ℕ × X). is_lt (by_bytes k e.0.items) && true) es in
+    let kept = filter (λ (e : List ℕ × X). is_lt (by_bytes k e.0)) (keyed es) in
+    elim (is_lt (by_bytes k e.0.items)) as (λ b. keyed (cond (b && true) (e ∷ rest) rest) ≡ cond b ((e.0.items, e.1) ∷ kept) kept) [
+      | true ↦ ap (λ (t : Table X). (e.0.items, e.1) ∷ t) (keyed_behind k es)
+      | false ↦ keyed_behind k es
+    ]
+
+-- and with no bound all
+pub keyed_all : {X : Type 0} (es : List (Vec ℕ × X)) → keyed (filter (λ e. true && true) es) ≡ keyed es
+keyed_all [] = refl
+keyed_all {X} (e ∷ es) = ap (λ (t : Table X). (e.0.items, e.1) ∷ t) (keyed_all es)
 
 -- the key that a query finds
 pub same_key : {X : Type 0} (k : List ℕ) (found : Option (Vec ℕ × X)) → IfSome found (λ p. by_bytes k p.0.items ≡ Equal) → IfSome found (λ p. p.0.items ≡ k)

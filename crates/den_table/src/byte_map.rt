@@ -4,12 +4,13 @@ ghost use Rattle.std.specs.List.Sorted.{IsStrictlySortedBy};
 ghost use Rattle.std.specs.Map.{keys_of};
 ghost use Rattle.std.specs.Ordering.{is_le};
 ghost use Rattle.den_model.specs.Table.{at, by_bytes, set, unset};
-ghost use Rattle.den_table.specs.Keyed.{keyed};
+ghost use Rattle.den_table.specs.Keyed.{keyed, behind};
 
 use std::alloc::{AllocError, Global};
 use std::collections::BTreeMap;
 use std::collections::btree_map::{Iter, Range};
 use std::marker::Model;
+use std::ops::Bound;
 
 /// Values at keys, seen as the table of them.
 #[derive(Drop)]
@@ -69,6 +70,19 @@ impl<V> ByteMap<V> {
         ensures sorted { IsStrictlySortedBy by_bytes (keys_of self.now) }
     {
         self.map.range(start..)
+    }
+
+    /// Each key above this one with its value, in the order of the keys; each key where there is none. The keys up to it are
+    /// not walked.
+    pub fn iter_behind<'a>(&'a self, key: Option<&'a Vec<u8>>) -> Range<'a, Vec<u8>, V>
+        ensures entries { keyed result ≡ behind (option_map (λ k. k.now.items) key.entry) self.now }
+        ensures sorted { IsStrictlySortedBy by_bytes (keys_of self.now) }
+    {
+        let start = match key {
+            None => Bound::Unbounded,
+            Some(key) => Bound::Excluded(key),
+        };
+        self.map.range((start, Bound::Unbounded))
     }
 
     /// Takes the key and its value out, if it is held.
