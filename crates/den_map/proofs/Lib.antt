@@ -2,4 +2,5 @@ pub mod Applying
 pub mod Cleaning
 pub mod Folding
 pub mod Overlay
+pub mod Paging
 pub mod Scanning

@@ -4,6 +4,8 @@ pub mod Held
 pub mod Journal
 pub mod Leases
 pub mod Order
+pub mod Pages
 pub mod Scan
+pub mod Sizes
 pub mod Tail
 pub mod Written

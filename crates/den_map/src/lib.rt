@@ -6,14 +6,17 @@
 //!
 //! - `Map::add` folds one more region of a journal, where it is lawful there; `Map::follow` carries out one that is known to be.
 //! - `Map::journal` makes the records, the results and the region of a chunk, and leaves the map as it is.
+//! - `Map::page` gives the pairs one page after the other, as a checkpoint holds them.
 //! - `Map::clean` carries out a cleanup; `Map::has_due` and `Map::due_keys` say beforehand what it removes.
 #![tactic(auto)]
 
 mod chunk;
 mod fold;
 mod map;
+mod pages;
 mod writes;
 
 pub use chunk::{Journaled, asks_lease, has_ttl, out_of_order};
 pub use fold::tail_after;
 pub use map::Map;
+pub use pages::last_key;

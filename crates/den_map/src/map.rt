@@ -1,13 +1,15 @@
 //! The map in memory: what it holds, the record of an entry, and what a record does to pairs and expiries.
-ghost use Rattle.std.specs.Prelude.{◌≡◌, [], length, option_map, IfOk, OnOk, nat_eq};
+ghost use Rattle.std.specs.Prelude.{◌≡◌, [], length, option_map, unwrap_or, IfOk, OnOk, nat_eq};
 ghost use Rattle.std.specs.Option.{option_eq};
 ghost use Rattle.std.specs.Cmp.Lexicographic.{pointwise};
 ghost use Rattle.std.specs.List.Sorted.{IsStrictlySortedBy};
+ghost use Rattle.std.specs.Map.{keys_of};
 ghost use Rattle.den_model.specs.Apply.{value_at};
 ghost use Rattle.den_model.specs.MapState.{MapState, part_of, with_pair};
 ghost use Rattle.den_model.specs.Step.{begins_with, pairs_under};
-ghost use Rattle.den_model.specs.Table.{by_bytes};
+ghost use Rattle.den_model.specs.Table.{at, by_bytes};
 ghost use Rattle.den_lease.specs.Due.{has_due, due_keys};
+ghost use Rattle.den_table.specs.Keyed.{keyed, behind};
 ghost use Rattle.den_map.specs.Cleanup.{cleaned_map};
 ghost use Rattle.den_map.specs.Scan.{keys_in};
 ghost use Rattle.den_map.specs.Fold.{carried};
@@ -20,6 +22,7 @@ use den_codec::{Blob, Command, Entry, Held, JournalRecord, KvEntry, LogId, Posit
 use den_lease::Expiries;
 use den_table::ByteMap;
 use std::alloc::{AllocError, Global};
+use std::collections::btree_map::Range;
 use std::marker::Model;
 
 /// Pairs and expiries, and the mark: the place of the last entry that they hold.
@@ -249,6 +252,21 @@ impl Map {
             })?;
         }
         Ok(Rows::of(pairs))
+    }
+
+    // The moment at which the key expires. 0 is never.
+    pub(crate) fn expiry_at(&self, key: &[u8]) -> u64
+        ensures { result ≡ unwrap_or (at self.now.expiries key.now) 0 }
+    {
+        self.expiries.get(key).unwrap_or(0)
+    }
+
+    // The pairs behind the key, and all where there is none, in the order of their keys.
+    pub(crate) fn pairs_behind<'a>(&'a self, key: Option<&'a Vec<u8>>) -> Range<'a, Vec<u8>, Held>
+        ensures entries { keyed result ≡ behind (option_map (λ k. k.now.items) key.entry) self.now.pairs }
+        ensures sorted { IsStrictlySortedBy by_bytes (keys_of self.now.pairs) }
+    {
+        self.pairs.iter_behind(key)
     }
 
     // What a record does to pairs and expiries.
