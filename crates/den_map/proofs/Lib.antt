@@ -4,3 +4,4 @@ pub mod Folding
 pub mod Overlay
 pub mod Paging
 pub mod Scanning
+pub mod Sizing

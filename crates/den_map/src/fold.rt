@@ -1,8 +1,9 @@
 //! The fold over the journal: what records and regions make of the map.
-ghost use Rattle.std.specs.Prelude.{◌≡◌, Some, None, IsTrue, IfOk, OnOk, if◌then◌else◌};
+ghost use Rattle.std.specs.Prelude.{◌≡◌, ◌+◌, ◌≤◌, length, Some, None, IsTrue, IfOk, OnOk, if◌then◌else◌};
 ghost use Rattle.den_model.specs.MapState.{with_pairs, map_after_record, map_after_records, map_after, map_after_payload};
 ghost use Rattle.den_map.specs.declared.fold.FoldError.TheVariants.{Memory};
 ghost use Rattle.den_map.specs.Fold.{Folds, place_of};
+ghost use Rattle.den_map.specs.Sizes.{pairs_size};
 ghost use Rattle.den_map.specs.Tail.{tail_after, tail_after_payload};
 
 use crate::map::Map;
@@ -134,6 +135,7 @@ impl Map {
     ) -> Result<(), FoldError>
         ensures map { Folds result (map_after_payload self.old payload.now) self.new }
         ensures tail { OnOk result (tail.new ≡ tail_after_payload tail.old payload.now) }
+        ensures size { OnOk result (pairs_size self.new.pairs ≤ pairs_size self.old.pairs + length payload.now) }
     {
         match StateRegion::read(alloc, payload)? {
             None => Err(FoldError::Unlawful),
@@ -149,6 +151,7 @@ impl Map {
     pub fn add(&mut self, alloc: Global, payload: &[u8], tail: &mut u64) -> Result<bool, AllocError>
         ensures map { IfOk result (λ lawful. map_after_payload self.old payload.now ≡ (if lawful then Some self.new else None)) }
         ensures tail { IfOk result (λ lawful. IsTrue lawful → tail.new ≡ tail_after_payload tail.old payload.now) }
+        ensures size { IfOk result (λ lawful. IsTrue lawful → pairs_size self.new.pairs ≤ pairs_size self.old.pairs + length payload.now) }
     {
         match self.add_payload(alloc, payload, tail) {
             Ok(()) => Ok(true),
