@@ -161,6 +161,25 @@ def opening(program, room, count, limit):
     shutil.rmtree(folder)
 
 
+def churned(program, room, count, limit):
+    """Prints the folder that many puts of a hundred keys leave beside a fresh one of the same pairs, and what each takes to open."""
+    pairs = [put(key(n), b"v" * 100) for n in range(100)]
+    told = []
+    for what, times in (("fresh", 1), ("churned", count // 100)):
+        folder = os.path.join(room, what)
+        if served(program, folder, b"".join(pairs) * times, limit) is None:
+            print(f"{count:12,} puts of 100 keys: not done in {limit:.0f} seconds")
+            return
+        started = time.monotonic()
+        server = Server(program, folder)
+        server.ask(read(key(99)))
+        told.append((size_of(folder), time.monotonic() - started))
+        server.end()
+        shutil.rmtree(folder)
+    (fresh, quick), (size, seconds) = told
+    print(f"{count:12,} puts of 100 keys: {size / 1e6:.2f} MB of files, opened in {seconds:.3f} s; 100 puts of them: {fresh / 1e6:.2f} MB, {quick:.3f} s", flush=True)
+
+
 def instructions(program, room, numbers):
     """The instructions of a run that puts the keys of these numbers."""
     told = os.path.join(room, "callgrind")
@@ -190,6 +209,7 @@ def options():
     parser.add_argument("program", metavar="PROGRAM", nargs="?", default=BUILT, help="the built server (what `rt ci` leaves)")
     parser.add_argument("--seconds", type=float, default=3, help="how long each rate is measured (%(default)s)")
     parser.add_argument("--keys", default="1000,10000,100000", help="the numbers of keys that are opened (%(default)s)")
+    parser.add_argument("--churn", type=int, default=200000, help="how many puts of a hundred keys a folder is filled with (%(default)s)")
     parser.add_argument("--folder", help="where the files lie while it runs; without it, the system's place for such files")
     asked = parser.parse_args()
     asked.keys = [int(it) for it in asked.keys.split(",") if it]
@@ -205,6 +225,7 @@ def main():
         rates(program, room, asked.seconds)
         for count in asked.keys:
             opening(program, room, count, 20 * asked.seconds)
+        churned(program, room, asked.churn, 200 * asked.seconds)
         counted(program, room)
 
 

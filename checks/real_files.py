@@ -45,6 +45,7 @@ def try_all(program, room):
     stops.signals(program, room, draw)
     stops.file_size_signal(program, room)
     stops.kills(program, room, draw)
+    stops.rewrites(program, room, draw)
 
 
 def main():

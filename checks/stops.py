@@ -2,13 +2,16 @@
 import os
 import random
 import resource
+import shutil
 import signal
 import time
 
-from serving import WRITTEN, Server, as_nobody, fail, put, say, values
+from serving import WRITTEN, Server, as_nobody, bodies, fail, files_of, owned, put, run, say, values
 
 KILLS, FOLDERS, PUTS = 50, 5, 1000
 VALUE = b"v" * 2000
+# A checkpoint and a purge come once in a thousand puts: these kills come where they are due.
+FEW, REWRITES, BEFORE, BEHIND = 8, 40, 985, 40
 
 
 def plain():
@@ -67,6 +70,47 @@ def kills(program, room, draw):
             answered += count
             check_held(program, folder, keys, held, new, count)
     say(f"{KILLS} kills in the midst of {PUTS} puts each, {answered} puts were answered and none is lost")
+
+
+def rewritten(folder):
+    """Whether a family's files are those of a rewrite that was not ended: the slot that its head does not name has bytes."""
+    files = files_of(folder)
+    for family in ("log", "meta", "state"):
+        other = "a" if files.get(f"{family}.head", b"")[:1] == b"\x01" else "b"
+        if files.get(f"{family}.{other}"):
+            return True
+    return False
+
+
+def rewrites(program, room, draw):
+    """Kills where checkpoints and purges are due, in puts of a few keys: nothing that was answered is lost."""
+    keys = [b"few%d" % (n % FEW) for n in range(BEFORE + BEHIND)]
+    answered, fell = 0, 0
+    ready = os.path.join(room, "ready")
+    status, out, lines = run(program, ready, [put(key, b"0.%d" % n) for n, key in enumerate(keys[:BEFORE])])
+    if status or count_of(bodies(out)) != BEFORE:
+        fail(f"{BEFORE} puts of {FEW} keys: status {status}, {lines!r}")
+    for kill in range(REWRITES):
+        folder = os.path.join(room, f"rewritten{kill}")
+        shutil.copytree(ready, folder)
+        owned(folder)
+        new = [b"%d.%d" % (kill + 1, n) for n in range(BEHIND)]
+        # Every fourth is killed in its opening, which writes the hard state anew.
+        answers = 0 if kill % 4 == 3 else draw.randrange(8, 20)
+        count = stopped(program, folder, list(map(put, keys[BEFORE:], new)), answers, signal.SIGKILL)
+        fell += rewritten(folder)
+        answered += count
+        check_few(program, folder, keys, [b"0.%d" % n for n in range(BEFORE)] + new, BEFORE + count)
+        shutil.rmtree(folder)
+    say(f"{REWRITES} kills where checkpoints and purges are due, {fell} of them inside a rewrite; {answered} puts were answered and none is lost")
+
+
+def check_few(program, folder, keys, made, count):
+    """Each key has its last value of the first `count` puts, or of one more."""
+    found = values(program, folder, keys[:FEW])
+    allowed = [dict(zip(keys[:n], made[:n])) for n in (count, min(count + 1, len(made)))]
+    if dict(zip(keys[:FEW], found)) not in allowed:
+        fail(f"behind {count} puts of {FEW} keys stand {found!r}")
 
 
 def signals(program, room, draw):
