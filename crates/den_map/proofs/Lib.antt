@@ -3,5 +3,6 @@ pub mod Cleaning
 pub mod Folding
 pub mod Overlay
 pub mod Paging
+pub mod Rebuilding
 pub mod Scanning
 pub mod Sizing

@@ -3,7 +3,6 @@ ghost use Rattle.std.specs.Prelude.{◌≡◌, [], length, option_map, unwrap_or
 ghost use Rattle.std.specs.Option.{option_eq};
 ghost use Rattle.std.specs.Cmp.Lexicographic.{pointwise};
 ghost use Rattle.std.specs.List.Sorted.{IsStrictlySortedBy};
-ghost use Rattle.std.specs.Map.{keys_of};
 ghost use Rattle.den_model.specs.Apply.{value_at};
 ghost use Rattle.den_model.specs.MapState.{MapState, part_of, with_pair};
 ghost use Rattle.den_model.specs.Step.{begins_with, pairs_under};
@@ -13,7 +12,7 @@ ghost use Rattle.den_table.specs.Keyed.{keyed, behind};
 ghost use Rattle.den_map.specs.Cleanup.{cleaned_map};
 ghost use Rattle.den_map.specs.Scan.{keys_in};
 ghost use Rattle.den_map.specs.Fold.{carried};
-ghost use Rattle.den_map.specs.Held.{EachIsHeld};
+ghost use Rattle.den_map.specs.Held.{EachIsHeld, IsSound};
 ghost use Rattle.den_map.specs.Journal.{expiry_of, recorded};
 ghost use Rattle.den_map.specs.Written.{IsOver, value_over};
 
@@ -35,13 +34,13 @@ pub struct Map {
 
 impl Model for Map {
     ghost use Rattle.den_model.specs.MapState.{MapState};
-    ghost use Rattle.den_map.specs.Held.{EachIsHeld};
+    ghost use Rattle.den_map.specs.Held.{AreExpiriesOf};
 
     ghost Value = { MapState };
 
     ghost view = { λ m. record { pairs = m.pairs; expiries = m.expiries; mark = m.mark } };
 
-    ghost invariant = { λ m. EachIsHeld m.expiries m.pairs };
+    ghost invariant = { λ m. AreExpiriesOf m.pairs m.expiries };
 }
 
 // When a time to live that begins at a moment ends, in milliseconds. 0 is never.
@@ -264,7 +263,7 @@ impl Map {
     // The pairs behind the key, and all where there is none, in the order of their keys.
     pub(crate) fn pairs_behind<'a>(&'a self, key: Option<&'a Vec<u8>>) -> Range<'a, Vec<u8>, Held>
         ensures entries { keyed result ≡ behind (option_map (λ k. k.now.items) key.entry) self.now.pairs }
-        ensures sorted { IsStrictlySortedBy by_bytes (keys_of self.now.pairs) }
+        ensures sound { IsSound self.now }
     {
         self.pairs.iter_behind(key)
     }

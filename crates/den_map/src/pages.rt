@@ -1,6 +1,7 @@
 //! The pairs of a map in pages, each small enough for one region of a file.
-ghost use Rattle.std.specs.Prelude.{◌≡◌, ◌-◌, ◌^◌, ◌++◌, min, List, length, option_copied, IfOk};
+ghost use Rattle.std.specs.Prelude.{◌≡◌, ◌-◌, ◌^◌, ◌++◌, min, List, length, option_copied, IfOk, OnOk};
 ghost use Rattle.den_model.specs.declared.region.StoredPair.{StoredPair};
+ghost use Rattle.den_map.specs.Held.{IsSound};
 ghost use Rattle.den_map.specs.Pages.{IsPage, last_key, stored, stored_pairs};
 ghost use Rattle.den_map.specs.Sizes.{pair_size};
 
@@ -50,7 +51,8 @@ impl Map {
     /// none. A page holds one pair at least where any is left, and as many as a region of 65,536 bytes does. The cost is
     /// O(log n) and that of the page.
     pub fn page(&self, alloc: Global, behind: Option<&Blob>) -> Result<Rows<StoredPair>, AllocError>
-        ensures { (front left : List StoredPair) → front ++ left ≡ stored_pairs self.now → option_copied behind.entry ≡ last_key front
+        ensures sound { OnOk result (IsSound self.now) }
+        ensures page { (front left : List StoredPair) → front ++ left ≡ stored_pairs self.now → option_copied behind.entry ≡ last_key front
             → IfOk result (λ page. IsPage left page) }
     {
         let start = match behind {

@@ -1,7 +1,7 @@
 use Rattle.std.proofs.Common.{◌≡◌, ℕ, List, ap, sym, subst, ◌∙◌}
 use Rattle.den_model.specs.declared.held.Held.{Held}
 use Rattle.den_model.specs.Table.{Table, unset}
-use Rattle.den_map.specs.Held.{EachIsHeld}
+use Rattle.den_map.specs.Held.{AreExpiriesOf}
 use Rattle.den_map.proofs.Cleaning.{held_less}
 use Rattle.den_map.proofs.map.Map.carry_out.Goals as goal
 
@@ -12,5 +12,5 @@ invariant_of-self c =
     let k = c.as_slice.result.now in
     let same : c.as_slice-in-Delete.result.now ≡ k = c.as_slice-in-Delete.ensures ∙ sym c.as_slice.ensures in
     let expiries : c.remove-in-Delete.new.self ≡ unset x k = c.remove-in-Delete.ensures.rest ∙ ap (unset x) same in
-    subst (λ (n : Table ℕ × Table Held). EachIsHeld n.0 n.1) (λ i. (sym expiries i, sym c.remove.ensures.rest i))
-    (held_less x p k c.remove-in-Delete.ensures.sorted c.remove.ensures.sorted c.self.invariant)
+    subst (λ (n : Table ℕ × Table Held). AreExpiriesOf n.1 n.0) (λ i. (sym expiries i, sym c.remove.ensures.rest i))
+    (held_less x p k c.remove.ensures.sorted c.self.invariant)

@@ -5,7 +5,7 @@ use Rattle.den_model.specs.MapState.{MapState}
 use Rattle.den_model.specs.Table.{Table, unset}
 use Rattle.den_lease.specs.Due.{has_due}
 use Rattle.den_map.specs.Cleanup.{cleaned_map}
-use Rattle.den_map.specs.Held.{EachIsHeld}
+use Rattle.den_map.specs.Held.{AreExpiriesOf}
 use Rattle.den_map.proofs.Cleaning.{clean_one, clean_none, held_less}
 use Rattle.den_map.proofs.map.Map.clean.Goals as goal
 
@@ -29,7 +29,7 @@ loop-expired-preserved c =
     λ i. record { pairs = less i; expiries = gone i; mark = s.mark } in
     record {
       cleaned = ap (cleaned_map m) now ∙ clean_one s m k c.in-Some.ensures.sorted c.remove.ensures.sorted expired ∙ c.loop-expired.invariant.cleaned;
-      held = subst (λ (n : MapState). EachIsHeld n.expiries n.pairs) (sym now) (held_less x p k c.in-Some.ensures.sorted c.remove.ensures.sorted c.loop-expired.invariant.held);
+      held = subst (λ (n : MapState). AreExpiriesOf n.pairs n.expiries) (sym now) (held_less x p k c.remove.ensures.sorted c.loop-expired.invariant.held);
     }
 
 pub loop-expired-smaller : goal.loop-expired-smaller
