@@ -1,8 +1,8 @@
 -- A cleanup, one key after the other.
-use Rattle.std.proofs.Common.{◌≡◌, ℕ, ◌≤◌, Bool, true, false, not, cond, filter, List, [], ◌∷◌, Option, Some, None, nat_le, if◌then◌else◌, refl, sym, ap, subst, ◌∙◌, arith}
+use Rattle.std.proofs.Common.{◌≡◌, ℕ, ◌≤◌, Bool, true, false, not, cond, filter, List, [], ◌∷◌, Option, Some, None, nat_le, if◌then◌else◌, refl, sym, ap, ◌∙◌, arith}
 use Rattle.std.proofs.lemmas.Bool.{leb-true}
 use Rattle.den_model.specs.declared.held.Held.{Held}
-use Rattle.den_model.specs.Apply.{is_expired, kept_pairs, kept_expiries}
+use Rattle.den_model.specs.Apply.{is_expired, kept_pairs}
 use Rattle.den_model.specs.MapState.{MapState}
 use Rattle.den_model.specs.Table.{Table, is_same, at, is_held, set, unset}
 use Rattle.std.specs.List.Sorted.{IsStrictlySortedBy}

@@ -1,4 +1,5 @@
 pub mod Applying
+pub mod Checkpoints
 pub mod Cleaning
 pub mod Folding
 pub mod Overlay

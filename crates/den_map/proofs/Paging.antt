@@ -5,7 +5,7 @@ use Rattle.std.specs.List.Sorted.{IsStrictlySortedBy}
 use Rattle.std.specs.Ordering.{is_lt, ordering_reverse}
 use Rattle.std.specs.declared.cmp.Ordering.TheVariants.{Less}
 use Rattle.std.proofs.lemmas.Cmp.{nat_list_cmp_total, tied_itself}
-use Rattle.std.proofs.lemmas.List.{append-nil}
+use Rattle.std.proofs.lemmas.List.{append-nil, nil_from_length}
 use Rattle.std.proofs.Math.Seq.{drop-append_seam, take-append-add}
 use Rattle.den_model.specs.declared.held.Held.{Held}
 use Rattle.den_model.specs.declared.region.StoredPair.{StoredPair}
@@ -154,3 +154,25 @@ page_full left page rest p size now is sized within any more above =
       small = λ two. let l = within two in let q = page_long page in omega arith;
       full = λ less. subst (λ (ps : List StoredPair). 65536 < page_size ps) (sym next) (let q = page_long (page ++ p ∷ []) in omega arith);
     }
+
+-- ---- a walk over pages
+
+-- the pairs so far with the page, and those that are left then
+pub walk_goes_on : (front left page all : List StoredPair) → front ++ left ≡ all → IsPage left page → (front ++ page) ++ drop (length page) left ≡ all
+walk_goes_on front left page all is one = append_assoc front page (drop (length page) left) ∙ ap (λ (l : List StoredPair). front ++ l) one.first ∙ is
+
+-- fewer are left
+pub walk_smaller : (left page : List StoredPair) → IsPage left page → 1 ≤ length page → length (drop (length page) left) < length left
+walk_smaller left page one some =
+    let both : length page + length (drop (length page) left) ≡ length left = sym (length-append page (drop (length page) left)) ∙ ap length one.first in
+    omega arith
+
+nothing_left : (left page : List StoredPair) → IsPage left page → length page ≡ 0 → length left ≡ 0
+nothing_left [] page one empty = refl
+nothing_left (p ∷ ps) page one empty = let some = one.some (omega arith) in absurd (omega arith)
+
+-- a page without a pair is behind the last
+pub walk_ends : (front left page all : List StoredPair) → front ++ left ≡ all → IsPage left page → length page ≡ 0 → front ≡ all
+walk_ends front left page all is one empty =
+    let none : left ≡ [] = nil_from_length left (nothing_left left page one empty) in
+    sym (append-nil front) ∙ ap (λ (l : List StoredPair). front ++ l) (sym none) ∙ is

@@ -1,5 +1,5 @@
 -- How many records follow the last Begin region of a journal, at most 2 ^ 64 - 1.
-use Rattle.std.specs.Prelude.{ℕ, ◌+◌, ◌-◌, ◌^◌, min, List, [], ◌∷◌, length, None, Some}
+use Rattle.std.specs.Prelude.{ℕ, ◌+◌, ◌-◌, ◌^◌, min, List, length, None, Some}
 use Rattle.den_model.specs.declared.region.StateRegion.{StateRegion}
 use Rattle.den_model.specs.declared.region.StateRegion.TheVariants.{Begin, Pairs, Records, Mark}
 use Rattle.den_model.specs.Reading.{state_region_in}

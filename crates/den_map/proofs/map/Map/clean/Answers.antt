@@ -1,8 +1,7 @@
-use Rattle.std.proofs.Common.{◌≡◌, ℕ, List, true, false, sym, ap, subst, ◌∙◌}
-use Rattle.den_model.specs.declared.held.Held.{Held}
+use Rattle.std.proofs.Common.{◌≡◌, ℕ, true, false, sym, ap, subst, ◌∙◌}
 use Rattle.den_model.specs.Apply.{is_expired}
 use Rattle.den_model.specs.MapState.{MapState}
-use Rattle.den_model.specs.Table.{Table, unset}
+use Rattle.den_model.specs.Table.{unset}
 use Rattle.den_lease.specs.Due.{has_due}
 use Rattle.den_map.specs.Cleanup.{cleaned_map}
 use Rattle.den_map.specs.Held.{AreExpiriesOf}

@@ -1,5 +1,4 @@
 use Rattle.std.proofs.Common.{◌≡◌, length}
-use Rattle.den_model.specs.MapState.{MapState}
 use Rattle.den_map.specs.Cleanup.{cleaned_map}
 use Rattle.den_map.specs.Held.{AreExpiriesOf}
 use Rattle.den_map.proofs.map.Map.clean.Given as goal

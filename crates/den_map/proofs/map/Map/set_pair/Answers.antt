@@ -1,4 +1,4 @@
-use Rattle.std.proofs.Common.{◌≡◌, ℕ, ap, sym, subst, ◌∙◌}
+use Rattle.std.proofs.Common.{◌≡◌, ℕ, sym, subst, ◌∙◌}
 use Rattle.den_model.specs.declared.held.Held.{Held}
 use Rattle.den_model.specs.Table.{Table, set}
 use Rattle.den_map.specs.Held.{AreExpiriesOf}
