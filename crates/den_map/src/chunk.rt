@@ -1,5 +1,5 @@
 //! A chunk of entries: its order, whether it asks for a lease, its records over the map, and what the map takes on.
-ghost use Rattle.std.specs.Prelude.{◌≡◌, ◌<◌, ◌≤◌, None, Some, IfOk, OnOk, length};
+ghost use Rattle.std.specs.Prelude.{◌≡◌, ◌<◌, ◌≤◌, None, Some, IsTrue, IfOk, OnOk, length};
 ghost use Rattle.den_model.specs.MapState.{MapState, map_applied, map_applied_all, map_after_record, map_after_records, results_of};
 ghost use Rattle.den_model.specs.Step.{has_ttl};
 ghost use Rattle.den_map.specs.Journal.{recorded, all_recorded, tells_success};
@@ -67,19 +67,22 @@ fn tells_success(journaled: &JournalRecord) -> bool
 }
 
 impl Map {
-    // The record of the next entry after the writes, to which it is added.
+    // The record of the next entry after the writes, to which it is added where more entries follow.
     fn record_next(
         &self,
         alloc: Global,
         writes: &mut Writes,
         entry: &Entry,
+        more: bool,
     ) -> Result<JournalRecord, AllocError>
         ensures is { IfOk result (λ r. (s : MapState) → IsOver writes.old self.now s → r ≡ recorded s entry.now) }
-        ensures over { OnOk result ((s : MapState) → IsOver writes.old self.now s → IsOver writes.new self.now (map_applied s entry.now)) }
+        ensures over { OnOk result (IsTrue more → (s : MapState) → IsOver writes.old self.now s → IsOver writes.new self.now (map_applied s entry.now)) }
         ensures lawful { IfOk result (λ r. (s : MapState) → s.mark.index < entry.now.index → r ≡ recorded s entry.now → map_after_record s r ≡ Some (map_applied s entry.now)) }
     {
         let journaled = self.record_of(writes, entry)?;
-        writes.note(alloc, &journaled)?;
+        if more {
+            writes.note(alloc, &journaled)?;
+        }
         let moment = entry.moment();
         prove!(1 <= moment);
         Ok(journaled)
@@ -94,10 +97,10 @@ impl Map {
         ensures results { IfOk result (λ journaled. journaled.results.items ≡ results_of self.now chunk.now) }
     {
         let mut writes = self.unwritten(alloc);
-        let mut records = Vec::new(alloc);
-        let mut results = Vec::new(alloc);
-        for entry in chunk {
-            let journaled = self.record_next(alloc, &mut writes, entry)?;
+        let mut records = Vec::with_capacity(alloc, chunk.len())?;
+        let mut results = Vec::with_capacity(alloc, chunk.len())?;
+        for (i, entry) in chunk.iter().enumerate() {
+            let journaled = self.record_next(alloc, &mut writes, entry, i + 1 < chunk.len())?;
             results.push(ApplyResult {
                 index: entry.index(),
                 succeeded: tells_success(&journaled),
