@@ -8,8 +8,6 @@ mod expiries;
 mod laws;
 mod lease;
 mod snapshot;
-#[cfg(test)]
-mod tests;
 
 pub use default_lease::DefaultLease;
 pub use expiries::Expiries;

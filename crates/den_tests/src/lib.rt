@@ -4,3 +4,5 @@
 
 #[cfg(test)]
 mod disk;
+#[cfg(test)]
+mod lease;
