@@ -25,8 +25,6 @@ mod last_state;
 mod log_store;
 mod meta_store;
 mod stores;
-#[cfg(test)]
-mod tests;
 
 pub use engine::{FileStorageEngine, StorageEngine};
 pub use log_store::FileLogStore;

@@ -6,3 +6,5 @@
 mod disk;
 #[cfg(test)]
 mod lease;
+#[cfg(test)]
+mod store;
