@@ -15,7 +15,7 @@ ghost use Rattle.den_codec.specs.Gives.{Gives};
 ghost use Rattle.den_codec.specs.Grows.{Grows};
 
 use crate::fields::{
-    put_blob, put_byte, put_i32, put_text, put_truth, put_u32, put_u64, take_blob, take_byte,
+    put_blob, put_byte, put_i32, put_raw, put_text, put_u32, put_u64, take_blob, take_byte,
     take_i32, take_text, take_truth, take_u32, take_u64,
 };
 use crate::word::{list_size, option_size, put_list, put_option, take_list, take_option};
@@ -281,8 +281,7 @@ fn put_payload(out: &mut Vec<u8>, payload: &Option<ClientResponsePayload>) -> Re
     match payload {
         None => put_byte(out, 0),
         Some(ClientResponsePayload::Write { succeeded }) => {
-            put_byte(out, 1)?;
-            put_truth(out, *succeeded)
+            put_raw(out, &[1, if *succeeded { 1 } else { 0 }])
         }
         Some(ClientResponsePayload::Read { entries }) => {
             put_byte(out, 2)?;
@@ -343,8 +342,7 @@ fn put_response(out: &mut Vec<u8>, response: &ClientResponse) -> Result<(), Allo
     ensures fits { OnOk result (FitsReply (Response response.now)) }
     ensures grows { Grows out.old.items out.new.items }
 {
-    put_byte(out, 1)?;
-    put_byte(out, code_number(response.error))?;
+    put_raw(out, &[1, code_number(response.error)])?;
     put_option(out, &response.leader_hint)?;
     put_option(out, &response.retry_after_ms)?;
     put_payload(out, &response.result)
