@@ -6,7 +6,7 @@ use Rattle.den_disk.specs.Files.{Kind, Content}
 use Rattle.den_model.specs.Regions.{regions}
 use Rattle.den_model.specs.Image.{named, head_of}
 use Rattle.den_gate.specs.declared.gate.GateFile.{GateFile}
-use Rattle.den_gate.specs.Slot.{Holds, payloads_of}
+use Rattle.den_gate.specs.Slot.{Holds, IsFilled, payloads_of}
 use Rattle.den_gate.specs.Steps.{IsOpen, Spares, IsFromOthers, RunSpares, RunSparesOthers}
 use Rattle.den_gate.specs.Gate.{IsCurrent}
 use Rattle.den_gate.specs.Draft.{other_slot, KeepsList, RestsWith, Rewrites, WritesOwn}
@@ -133,6 +133,12 @@ module _ {D : Type 0} (disk : Ghosts D) (law : Law disk) (slot other : Place) (i
 
     pub made_others : (d2 : D) → (IsTrue (disk.kind d1).tells → RunSparesOthers disk.content disk.moment disk.images slot.family d1 d2) → RunSparesOthers disk.content disk.moment disk.images slot.family d0 d2
     made_others d2 commit = others_then disk slot.family d0 d1 d2 filled_others (commit tells1)
+
+    pub made_filled : (d2 : D) (end at : ℕ) → end ≡ at → (IsTrue (disk.kind d1).tells → (disk.content d2).reading (other_slot slot) ≡ (disk.content d1).reading (other_slot slot))
+        → IsFilled end ((disk.content d1).reading other) → IsFilled at ((disk.content d2).reading (other_slot slot))
+    made_filled d2 end at end_is kept f =
+        let here : IsFilled end ((disk.content d1).reading (other_slot slot)) = subst (λ (p : Place). IsFilled end ((disk.content d1).reading p)) is f in
+        subst (λ (l : List ℕ). IsFilled at l) (sym (kept tells1)) (subst (λ (e : ℕ). IsFilled e ((disk.content d1).reading (other_slot slot))) end_is here)
 
     module _ (list now : List (List ℕ)) (end at : ℕ) (holds : Holds now at ((disk.content d1).reading other)) (rest : IsOpen slot list end (disk.content d0)) (current : IsCurrent slot (disk.content d0)) where
       here : Holds now at ((disk.content d1).reading (other_slot slot))

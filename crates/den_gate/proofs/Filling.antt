@@ -1,5 +1,5 @@
 -- What the steps of a draft make of the bytes of its slot.
-use Rattle.std.proofs.Common.{◌≡◌, ◌⊎◌, inl, inr, ⊎_elim, ℕ, ◌+◌, ◌<◌, ◌≤◌, ◌^◌, ◌*◌, ◌/◌, ◌-◌, min, List, [], ◌∷◌, ◌++◌, length, take, drop, get_or, refl, sym, ◌∙◌, ap, subst, arith, append_assoc, length-append, take-append-drop}
+use Rattle.std.proofs.Common.{◌≡◌, ◌⊎◌, inl, inr, ⊎_elim, ℕ, ◌+◌, ◌<◌, ◌≤◌, ◌^◌, ◌-◌, min, List, [], ◌∷◌, ◌++◌, length, take, drop, get_or, refl, sym, ◌∙◌, ap, subst, arith, append_assoc, length-append, take-append-drop}
 use Rattle.std.proofs.lemmas.List.{take_more}
 use Rattle.den_disk.specs.declared.place.Place.{Place}
 use Rattle.den_disk.specs.Files.{Content, written, resized, put_at, fit}
@@ -7,7 +7,7 @@ use Rattle.den_disk.proofs.Places.{change-here}
 use Rattle.den_disk.proofs.Images.{length-fit}
 use Rattle.den_model.specs.Spelling.{u64_word}
 use Rattle.den_model.specs.Regions.{open_region, open_regions}
-use Rattle.den_gate.specs.Slot.{Grows, Holds, IsShort, room_for, whole_chunks}
+use Rattle.den_gate.specs.Slot.{Grows, Holds, IsFilled, IsShort, StopsAt, begin_of, room_for, whole_chunks}
 use Rattle.den_gate.proofs.Written.{staged_written, regions-push, length-word}
 use Rattle.den_gate.proofs.Calm.{opened, fitted}
 
@@ -58,11 +58,15 @@ grows_on old mid new end size g same = record { grown = λ short. same ∙ g.gro
 
 -- ---- a whole list
 
+-- where a list ends with one payload more
+pub size_push : (list : List (List ℕ)) (p : List ℕ) → length (open_regions (list ++ p ∷ [])) ≡ length (open_regions list) + (9 + length p)
+size_push list p =
+    omega (arith, ap length (regions-push list p), length-append (open_regions list) (open_region p), length-append (u64_word (length p)) p, length-word (length p))
+
 pub size_more : (list : List (List ℕ)) (i : ℕ) (p : List ℕ) → i < length list → p ≡ get_or list i p → length (open_regions (take (i + 1) list)) ≡ length (open_regions (take i list)) + (9 + length p)
 size_more list i p lt is =
     let more : take (i + 1) list ≡ take i list ++ p ∷ [] = take_more list i p lt ∙ ap (λ (q : List ℕ). take i list ++ q ∷ []) (sym is) in
-    let joined : open_regions (take (i + 1) list) ≡ open_regions (take i list) ++ open_region p = ap open_regions more ∙ regions-push (take i list) p in
-    omega (arith, ap length joined, length-append (open_regions (take i list)) (open_region p), length-append (u64_word (length p)) p, length-word (length p))
+    ap (λ (l : List (List ℕ)). length (open_regions l)) more ∙ size_push (take i list) p
 
 pub holds_more : (list : List (List ℕ)) (i at : ℕ) (p file : List ℕ) → i < length list → p ≡ get_or list i p → Holds (take i list ++ p ∷ []) at file → Holds (take (i + 1) list) at file
 holds_more list i at p file lt is h =
@@ -86,29 +90,48 @@ room_front list i p end lt is at = chunks_mono (end + 10 + length p) (length (op
     chunks_mono : (a b : ℕ) → a ≤ b → min (whole_chunks a) (2 ^ 64 - 1) ≤ whole_chunks b
     chunks_mono a b le = omega arith
 
--- a slot of whole chunks within the limit, with room for one more gate behind what it holds
-pub record InChunks (end len limit : ℕ) : Type 0 where
-  pub chunks : ℕ
-  pub whole : len ≡ chunks * 65536
-  pub fits : len ≤ limit
-  pub room : (end ≡ 0) ⊎ (end + 1 ≤ len)
+-- a slot that was filled up to this end, within the limit
+pub record FilledWithin (end limit : ℕ) (file : List ℕ) : Type 0 where
+  pub filled : IsFilled end file
+  pub fits : length file ≤ limit
 
-pub chunks_more : (end n : ℕ) (was now : List ℕ) (limit : ℕ) → InChunks end (length was) limit → end + (9 + n) ≤ 2 ^ 62 → Grows was now end n → (IsShort was end n → room_for end n ≤ limit) → InChunks (end + (9 + n)) (length now) limit
-chunks_more end n was now limit c low g not_full = ⊎_elim grown kept (order (length was) (end + 10 + n))
+pub none_filled : (limit : ℕ) (file : List ℕ) → file ≡ [] → FilledWithin 0 limit file
+none_filled limit file is =
+    let none : length file ≡ 0 = ap length is in
+    record { filled = record { none = λ e. none; some = λ le. absurd (omega (arith, le)) }; fits = omega (arith, none) }
+
+pub filled_more : (end n : ℕ) (was now : List ℕ) (limit : ℕ) → FilledWithin end limit was → end + (9 + n) ≤ 2 ^ 62 → Grows was now end n → (IsShort was end n → room_for end n ≤ limit)
+    → FilledWithin (end + (9 + n)) limit now
+filled_more end n was now limit f low g not_full = ⊎_elim grown kept (order (length was) (end + 10 + n))
   where
     order : (a b : ℕ) → (a < b) ⊎ (b ≤ a)
     order a b = grind arith
 
-    grown : IsShort was end n → InChunks (end + (9 + n)) (length now) limit
+    grown : IsShort was end n → FilledWithin (end + (9 + n)) limit now
     grown short =
         let is : length now ≡ room_for end n = g.grown short in
-        let whole : length now ≡ (end + 10 + n + 65535) / 65536 * 65536 = omega (arith, is) in
-        record { chunks = (end + 10 + n + 65535) / 65536; whole = whole; fits = omega (arith, is, not_full short); room = inr (omega (arith, whole)) }
+        let some : length now ≡ whole_chunks (end + (9 + n) + 1) = omega (arith, is, low) in
+        record { filled = record { none = λ e. absurd (omega (arith, e)); some = λ le. some }; fits = omega (arith, is, not_full short) }
 
-    kept : end + 10 + n ≤ length was → InChunks (end + (9 + n)) (length now) limit
+    kept : end + 10 + n ≤ length was → FilledWithin (end + (9 + n)) limit now
     kept long =
         let is : length now ≡ length was = g.kept long in
-        record { chunks = c.chunks; whole = is ∙ c.whole; fits = omega (arith, is, c.fits); room = inr (omega (arith, is)) }
+        let begun : 1 ≤ end = ⊎_elim (λ lt. absurd (omega (arith, long, f.filled.none (omega (arith, lt))))) (λ le. le) (order end 1) in
+        let before : length was ≡ whole_chunks (end + 1) = f.filled.some begun in
+        let some : length now ≡ whole_chunks (end + (9 + n) + 1) = omega (arith, is, before, long) in
+        record { filled = record { none = λ e. absurd (omega (arith, e)); some = λ le. some }; fits = omega (arith, is, f.fits) }
 
-pub chunks_end : (end len limit : ℕ) → InChunks end len limit → (end ≡ 0) ⊎ (whole_chunks (end + 1) ≤ limit)
-chunks_end end len limit c = ⊎_elim (λ none. inl none) (λ le. inr (omega (arith, c.whole, c.fits, le))) c.room
+-- and so it has the room for what it holds
+pub filled_fits : (end limit : ℕ) (file : List ℕ) → FilledWithin end limit file → (end ≡ 0) ⊎ (whole_chunks (end + 1) ≤ limit)
+filled_fits end limit file f = ⊎_elim (λ lt. inl (omega (arith, lt))) (λ le. inr (omega (arith, f.filled.some le, f.fits))) (order end)
+  where
+    order : (a : ℕ) → (a < 1) ⊎ (1 ≤ a)
+    order a = grind arith
+
+-- the payloads before one for which there is no room
+pub stops_at : (list : List (List ℕ)) (i end : ℕ) (p file : List ℕ) → p ≡ get_or list i [] → end ≡ begin_of list i → Holds (take i list) end file → IsFilled end file → IsShort file end (length p) → StopsAt list i file
+stops_at list i end p file is at h f short = record {
+  holds = subst (λ (e : ℕ). Holds (take i list) e file) at h;
+  filled = subst (λ (e : ℕ). IsFilled e file) at f;
+  short = subst (λ (q : List ℕ). IsShort file (begin_of list i) (length q)) is (subst (λ (e : ℕ). IsShort file e (length p)) at short);
+}

@@ -196,12 +196,18 @@ module _ {D : Type 0} (disk : Ghosts D) (law : Law disk) (slot : Place) {d0 d1 :
   pub sync_others : RunSparesOthers disk.content disk.moment disk.images slot.family d0 d1
   sync_others = others_settles disk slot.family d0 d1 settles
 
+  pub sync_kept : (disk.content d1).reading (other_slot slot) ≡ (disk.content d0).reading (other_slot slot)
+  sync_kept = settles.spares.reading (other_slot slot)
+
   pub sync_turns : (list now : List (List ℕ)) → Drafted slot list now (disk.content d0) → Turns disk slot list now d0 d1
   sync_turns list now d = turns_settles disk slot list now d0 d1 (λ files i. (law d0 files tells).0 i) d.list_is d.settled d.current settles
 
   module _ {d2 : D} (flip : IsTrue (disk.kind d1).tells → RunSpares disk.content disk.moment disk.images (head_of slot.family) d1 d2) where
     pub flip_others : RunSparesOthers disk.content disk.moment disk.images slot.family d0 d2
     flip_others = others_then disk slot.family d0 d1 d2 sync_others (others_run disk slot.family (head_of slot.family) d1 d2 refl (flip tells1))
+
+    pub flip_kept : (disk.content d2).reading (other_slot slot) ≡ (disk.content d0).reading (other_slot slot)
+    flip_kept = (flip tells1).spares.reading (other_slot slot) (λ e. head_apart slot (sym e)) ∙ sync_kept
 
     module _ (synced_is : disk.content d1 ≡ synced (disk.content d0)) where
       pub flip_turns : (list now : List (List ℕ)) → Drafted slot list now (disk.content d0) → Turns disk slot list now d0 d2
@@ -231,3 +237,7 @@ module _ {D : Type 0} (disk : Ghosts D) (law : Law disk) (slot : Place) {d0 d1 :
         clear_done now end head h =
             let is = current_slot slot (disk.content d0) head in
             committed slot now end (disk.content d0) (disk.content d1) (disk.content d2) (disk.content d3) is h synced_is (flip tells1).spares (current tells1 is) (clear tells2).spares
+
+    module _ {d3 : D} (same2 : disk.kind d2 ≡ disk.kind d1) (clear : IsTrue (disk.kind d2).tells → RunSpares disk.content disk.moment disk.images slot d2 d3) where
+      pub clear_kept : (disk.content d3).reading (other_slot slot) ≡ (disk.content d0).reading (other_slot slot)
+      clear_kept = (clear (subst (λ (k : Kind). IsTrue k.tells) (sym same2) tells1)).spares.reading (other_slot slot) (λ e. slots_apart slot (sym e)) ∙ flip_kept

@@ -1,5 +1,5 @@
 -- Drafts and rewrites: what they make of a gate file, and what a crash in them leaves.
-use Rattle.std.specs.Prelude.{◌≡◌, ◌⊎◌, ◌≤◌, ℕ, List, None, IsSome, unwrap_or, Result, OnOk, IsTrue, IsErr, true, false, []}
+use Rattle.std.specs.Prelude.{◌≡◌, ◌⊎◌, ◌+◌, ◌<◌, ◌≤◌, ◌^◌, ℕ, List, length, None, IsSome, unwrap_or, Result, OnOk, IsTrue, IsErr, true, false, []}
 use Rattle.den_disk.specs.declared.disk.Disk.{Ghosts}
 use Rattle.den_disk.specs.declared.place.Part.{Part}
 use Rattle.den_disk.specs.declared.place.Part.TheVariants.{Head, A, B}
@@ -9,7 +9,8 @@ use Rattle.den_disk.specs.Crash.{Leaves}
 use Rattle.den_disk.specs.Goes.{DiskGoesOn}
 use Rattle.den_disk.specs.Families.{SparesOthers, SparesImages}
 use Rattle.den_gate.specs.declared.gate.GateFile.{GateFile}
-use Rattle.den_gate.specs.Slot.{Holds}
+use Rattle.den_model.specs.Regions.{open_regions}
+use Rattle.den_gate.specs.Slot.{Holds, StopsAt, begin_of, size_of, room_for, whole_chunks}
 use Rattle.den_gate.specs.Steps.{Spares, IsFromOthers}
 use Rattle.den_gate.specs.Gate.{payloads, IsAtRest, IsCurrent, HasList, KeepsFamily}
 
@@ -46,6 +47,17 @@ pub record Flips (slot other : Place) (list now : List (List ℕ)) (before : Fil
 -- at each moment from one on up to another a crash leaves the family the list of the one slot or that of the other
 pub record FlipsFamily (slot other : Place) (list now : List (List ℕ)) (images : ℕ → Files → Type 0) (from to : ℕ) : Type 0 where
   pub each : (t : ℕ) (files : Files) → from ≤ t → t ≤ to → images t files → HasList slot list files ⊎ HasList other now files
+
+-- A slot that is filled meets the disk's limit at one of the payloads, whose room is told; those before it stand in the slot.
+pub record PassesLimit {D : Type 0} (disk : Ghosts D) (slot : Place) (list : List (List ℕ)) (old new : D) (needed limit : ℕ) : Type 0 where
+  pub at : ℕ
+  pub within : at < length list
+  pub needed_is : needed ≡ room_for (begin_of list at) (size_of list at)
+  pub most : needed ≤ whole_chunks (length (open_regions list) + 1)
+  pub limit_is : limit ≡ (disk.kind old).limit
+  pub passes : limit < needed
+  pub least : 2 ^ 43 ≤ limit
+  pub stops : IsTrue (disk.kind old).tells → StopsAt list at ((disk.content new).reading slot)
 
 module _ {D : Type 0} (disk : Ghosts D) (was now : GateFile) (old new : D) where
   -- A call that writes files of its own family alone, whatever comes of it. A refusal leaves the gate file failed.

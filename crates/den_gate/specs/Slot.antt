@@ -1,5 +1,5 @@
 -- What the bytes of a slot stand for, by the payloads of its regions.
-use Rattle.std.specs.Prelude.{◌≡◌, ◌≢◌, ◌<◌, ◌≤◌, ◌⊎◌, ◌^◌, ℕ, ◌+◌, ◌*◌, ◌/◌, ◌-◌, min, Result, Ok, Err, List, [], ◌∷◌, ◌++◌, length, take, drop, slice_index}
+use Rattle.std.specs.Prelude.{◌≡◌, ◌≢◌, ◌<◌, ◌≤◌, ◌⊎◌, ◌^◌, ℕ, ◌+◌, ◌*◌, ◌/◌, ◌-◌, min, Result, Ok, Err, List, [], ◌∷◌, ◌++◌, length, take, drop, get_or, slice_index}
 use Rattle.den_model.specs.Spelling.{u64_word}
 use Rattle.den_model.specs.Reading.{size_at}
 use Rattle.den_model.specs.Regions.{Region, regions, open_region, open_regions}
@@ -62,3 +62,22 @@ IsShort file end size = length file < end + 10 + size
 pub record Grows (old new : List ℕ) (end size : ℕ) : Type 0 where
   pub grown : IsShort old end size → length new ≡ room_for end size
   pub kept : end + 10 + size ≤ length old → length new ≡ length old
+
+-- a file that was filled from nothing up to this end: empty where nothing came, and else with room for the gate at the end, in whole chunks
+pub record IsFilled (end : ℕ) (file : List ℕ) : Type 0 where
+  pub none : end ≡ 0 → length file ≡ 0
+  pub some : 1 ≤ end → length file ≡ whole_chunks (end + 1)
+
+-- where the payload of this number begins, if these payloads are put one behind the other
+abbrev pub begin_of : List (List ℕ) → ℕ → ℕ
+begin_of list at = length (open_regions (take at list))
+
+-- how long the payload of this number is
+abbrev pub size_of : List (List ℕ) → ℕ → ℕ
+size_of list at = length (get_or list at [])
+
+-- the payloads before one of this number, in a file that has not the room for that one
+pub record StopsAt (list : List (List ℕ)) (at : ℕ) (file : List ℕ) : Type 0 where
+  pub holds : Holds (take at list) (begin_of list at) file
+  pub filled : IsFilled (begin_of list at) file
+  pub short : IsShort file (begin_of list at) (size_of list at)

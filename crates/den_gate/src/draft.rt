@@ -4,7 +4,8 @@ ghost use Rattle.den_disk.specs.Crash.{Stays};
 ghost use Rattle.den_disk.specs.Goes.{HasCause, Rose};
 ghost use Rattle.den_model.specs.Regions.{open_regions};
 ghost use Rattle.den_gate.specs.Causes.{Because};
-ghost use Rattle.den_gate.specs.Slot.{Grows, Holds, IsShort, room_for, whole_chunks};
+ghost use Rattle.den_gate.specs.Draft.{PassesLimit};
+ghost use Rattle.den_gate.specs.Slot.{Grows, Holds, IsFilled, IsShort, room_for, whole_chunks};
 ghost use Rattle.den_gate.specs.Steps.{RunSpares};
 
 use crate::GateError;
@@ -71,9 +72,9 @@ pub fn fill<D: Disk>(disk: &mut D, slot: Place, list: &[Blob]) -> Result<u64, Ga
     ensures later { D.faults disk.old ≤ D.faults disk.new }
     ensures end { IfOk result (λ end. (end ≡ length (open_regions list.now)) × (end ≤ 2 ^ 62)) }
     ensures holds { IsTrue (D.kind disk.old).tells → IfOk result (λ end. Holds list.now end ((D.content disk.new).reading slot)) }
+    ensures filled { IsTrue (D.kind disk.old).tells → IfOk result (λ end. IsFilled end ((D.content disk.new).reading slot)) }
     ensures run { IsTrue (D.kind disk.old).tells → RunSpares D.content D.moment D.images slot disk.old disk.new }
-    ensures refused { IfErr result (Because ⊥ (Rose (D.faults disk.old) (D.faults disk.new)) (λ needed limit.
-        (needed ≤ whole_chunks (length (open_regions list.now) + 1)) × (limit ≡ (D.kind disk.old).limit) × (limit < needed) × (2 ^ 43 ≤ limit)) (λ part offset. ⊥)) }
+    ensures refused { IfErr result (Because ⊥ (Rose (D.faults disk.old) (D.faults disk.new)) (PassesLimit D.Disk slot list.now disk.old disk.new) (λ part offset. ⊥)) }
     ensures not_full { IsTrue (D.kind disk.old).tells → IfOk result (λ end. (end ≡ 0) ⊎ (whole_chunks (end + 1) ≤ (D.kind disk.old).limit)) }
 {
     clear(disk, slot)?;

@@ -34,13 +34,13 @@ impl GateFile {
     ghost use Rattle.den_model.specs.Regions.{regions, open_regions};
     ghost use Rattle.den_model.specs.Image.{slot_of};
     ghost use Rattle.den_gate.specs.Causes.{Because};
-    ghost use Rattle.den_gate.specs.Slot.{Grows, IsShort, room_for, whole_chunks};
+    ghost use Rattle.den_gate.specs.Slot.{Grows, IsFilled, IsShort, room_for, whole_chunks};
     ghost use Rattle.den_gate.specs.Steps.{Keeps, KeepsOrAdds, Spares};
     ghost use Rattle.den_gate.specs.Gate.{payloads, IsAtRest, IsCurrent, KeepsFamily, KeepsOrAddsFamily};
     ghost use Rattle.den_gate.specs.Loading.{IsDurable};
     ghost use Rattle.den_gate.specs.Reader.{StandsIn};
     ghost use Rattle.den_gate.specs.Reads.{OnlyReads};
-    ghost use Rattle.den_gate.specs.Draft.{draft_end, other_slot, IsDraft, KeepsList, RestsWith, Rewrites, Rewritten, WritesOwn};
+    ghost use Rattle.den_gate.specs.Draft.{draft_end, other_slot, IsDraft, KeepsList, PassesLimit, RestsWith, Rewrites, Rewritten, WritesOwn};
 
     /// Finds where a family's list ends, with all files on the disk. It takes no memory and writes nothing.
     pub fn load<D: Disk>(family: Family, disk: &mut D) -> Result<GateFile, GateError>
@@ -231,6 +231,8 @@ impl GateFile {
         ensures keeps { KeepsList D.Disk self.old self.new disk.old disk.new }
         ensures pushed { IsTrue (D.kind disk.old).tells → (list : List (List ℕ)) → IsDraft self.old list (D.content disk.old)
             → OnOk result (IsDraft self.new (list ++ payload.now ∷ []) (D.content disk.new)) }
+        ensures grows { IsTrue (D.kind disk.old).tells → OnOk result (Grows ((D.content disk.old).reading (other_slot self.old.slot))
+            ((D.content disk.new).reading (other_slot self.old.slot)) (draft_end self.old) (length payload.now)) }
         ensures draft { OnOk result (self.new.draft ≡ Some (draft_end self.old + (9 + length payload.now))) }
         ensures refused { IfErr result (Because ⊥ (Rose (D.faults disk.old) (D.faults disk.new)) (λ needed limit.
             (needed ≡ room_for (draft_end self.old) (length payload.now)) × (limit ≡ (D.kind disk.old).limit) × (limit < needed) × (2 ^ 43 ≤ limit)
@@ -248,8 +250,8 @@ impl GateFile {
         Ok(())
     }
 
-    /// Makes the draft the list, in the slot where it lies; no draft is left, and no byte in the old slot. It takes no memory.
-    /// After a fault of the disk the list is the old one or the draft, as the gate file that is loaded anew says.
+    /// Makes the draft the list, in the slot where it lies, which keeps its bytes; no draft is left, and no byte in the old
+    /// slot. It takes no memory. After a fault of the disk the list is the old one or the draft, as the gate file that is loaded anew says.
     pub fn draft_commit<D: Disk>(&mut self, disk: &mut D) -> Result<(), GateError>
         requires ready { self.old.failed ≡ false }
         requires drafting { IsSome self.old.draft }
@@ -259,6 +261,10 @@ impl GateFile {
         ensures rests { IsTrue (D.kind disk.old).tells → (list : List (List ℕ)) → IsDraft self.old list (D.content disk.old)
             → IsCurrent self.old.slot (D.content disk.old) → OnOk result (RestsWith self.new list (D.content disk.new)) }
         ensures rewritten { OnOk result (Rewritten D.Disk self.old self.new disk.old disk.new (draft_end self.old)) }
+        ensures kept { IsTrue (D.kind disk.old).tells → (D.content disk.new).reading (other_slot self.old.slot) ≡ (D.content disk.old).reading (other_slot self.old.slot) }
+        ensures slot { IsErr result → self.new.slot ≡ self.old.slot }
+        ensures end { IsErr result → self.new.end ≡ self.old.end }
+        ensures draft { IsErr result → self.new.draft ≡ self.old.draft }
         ensures refused { IfErr result (Because ⊥ (Rose (D.faults disk.old) (D.faults disk.new)) (λ needed limit. ⊥) (λ part offset. ⊥)) }
     {
         let end = self.draft.unwrap_or(0);
@@ -273,7 +279,8 @@ impl GateFile {
 
     /// Makes these payloads the list, by way of the slot that the head does not name; a draft that stood is gone, and no byte is
     /// left in the old slot. It takes no memory. After a fault of the disk the list is the old one or this one, as the gate file
-    /// that is loaded anew says. `Full` comes exactly where the room for the list would pass the disk's limit.
+    /// that is loaded anew says. `Full` comes exactly where the room for the list would pass the disk's limit. It tells the room
+    /// for the first payload that does not fit; those before it lie in the other slot then, and the list stays.
     pub fn rewrite<D: Disk>(&mut self, disk: &mut D, list: &[Blob]) -> Result<(), GateError>
         requires ready { self.old.failed ≡ false }
         requires at_rest { IsTrue (D.kind disk.old).tells → IsAtRest self.old (D.content disk.old) }
@@ -282,9 +289,12 @@ impl GateFile {
         ensures rewrites { IsTrue (D.kind disk.old).tells → Rewrites D.Disk self.old self.new disk.old disk.new list.now }
         ensures rests { IsTrue (D.kind disk.old).tells → OnOk result (RestsWith self.new list.now (D.content disk.new)) }
         ensures rewritten { OnOk result (Rewritten D.Disk self.old self.new disk.old disk.new (length (open_regions list.now))) }
+        ensures filled { IsTrue (D.kind disk.old).tells → OnOk result (IsFilled (length (open_regions list.now)) ((D.content disk.new).reading (other_slot self.old.slot))) }
+        ensures slot { IsErr result → self.new.slot ≡ self.old.slot }
+        ensures end { IsErr result → self.new.end ≡ self.old.end }
         ensures draft { self.new.draft ≡ None }
         ensures refused { IfErr result (Because ⊥ (Rose (D.faults disk.old) (D.faults disk.new)) (λ needed limit.
-            (needed ≤ whole_chunks (length (open_regions list.now) + 1)) × (limit ≡ (D.kind disk.old).limit) × (limit < needed) × (2 ^ 43 ≤ limit)) (λ part offset. ⊥)) }
+            PassesLimit D.Disk (other_slot self.old.slot) list.now disk.old disk.new needed limit × KeepsList D.Disk self.old self.new disk.old disk.new) (λ part offset. ⊥)) }
         ensures not_full { IsTrue (D.kind disk.old).tells → OnOk result ((length (open_regions list.now) ≡ 0)
             ⊎ (whole_chunks (length (open_regions list.now) + 1) ≤ (D.kind disk.old).limit)) }
     {

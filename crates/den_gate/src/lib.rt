@@ -17,10 +17,14 @@
 //! 4. A call on one slot leaves all other files as a crash before it might have left them: `spares`, `others`, `images`,
 //!    and `writes` of the calls on drafts and whole lists.
 //! 5. A slot that is too short for a region and the gate behind it grows to the least multiple of 65,536 that holds them, and
-//!    no further: `grows`. Where that passes the disk's limit nothing is changed: `refused`, `not_full`.
+//!    no further: `grows` of `reserve`, `append` and `draft_push`. So a slot that was filled from empty is empty yet, or has
+//!    the least such multiple for its regions and one gate: `filled` of `rewrite`; `kept` of `draft_commit` says that a draft
+//!    keeps its bytes. Where the room passes the disk's limit nothing is changed: `refused`, `not_full`. `rewrite` then leaves
+//!    the payloads before that one in the slot that the head does not name, and the list as it was.
 //! 6. Calls that read change nothing: `stays` of `regions`, `disk` of `reader` and of `RegionReader::next`.
 //! 7. What was refused may have left a slot that is not at rest: `failed` of `reserve`, `append` and `flush`, and of the
-//!    record `WritesOwn`. These calls ask for `ready`. The gate file is loaded anew then.
+//!    record `WritesOwn`. These calls ask for `ready`. The gate file is loaded anew then. It is in the slot where it was:
+//!    `slot`, `end`.
 //! 8. A draft lies in the slot that the head does not name. That slot is emptied before it is filled, and each region has a
 //!    closed gate or the slot's end behind it, so no byte of an older list is read: `begun`, `cleared` of `draft_begin`,
 //!    `pushed` of `draft_push`. Calls on the list leave the draft: `draft_kept` of `reserve`, `append` and `flush`.

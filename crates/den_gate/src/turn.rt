@@ -41,6 +41,7 @@ pub fn commit<D: Disk>(disk: &mut D, slot: Place) -> Result<(), GateError>
     ensures done { IsTrue (D.kind disk.old).tells → (now : List (List ℕ)) (end : ℕ) → IsCurrent slot (D.content disk.old) → Holds now end ((D.content disk.old).reading (other_slot slot))
         → OnOk result (IsOpen (other_slot slot) now end (D.content disk.new) × IsCurrent (other_slot slot) (D.content disk.new)) }
     ensures cleared { IsTrue (D.kind disk.old).tells → OnOk result ((D.content disk.new).reading slot ≡ []) }
+    ensures kept { IsTrue (D.kind disk.old).tells → (D.content disk.new).reading (other_slot slot) ≡ (D.content disk.old).reading (other_slot slot) }
     ensures refused { IfErr result (Because ⊥ (Rose (D.faults disk.old) (D.faults disk.new)) (λ needed limit. ⊥) (λ part offset. ⊥)) }
 {
     disk.sync()?;

@@ -2,7 +2,7 @@ use Rattle.std.proofs.Common.{◌≡◌, ◌≤◌, ◌^◌, IsTrue, length, tak
 use Rattle.den_model.specs.Regions.{open_regions}
 use Rattle.den_gate.specs.Slot.{Holds}
 use Rattle.den_gate.specs.Steps.{RunSpares}
-use Rattle.den_gate.proofs.Filling.{InChunks}
+use Rattle.den_gate.proofs.Filling.{FilledWithin}
 use Rattle.den_gate.proofs.draft.fill.Given as goal
 
 abbrev pub invariant-loop-payload : goal.invariant-loop-payload
@@ -13,5 +13,5 @@ invariant-loop-payload g l = record {
   size : l.end ≡ length (open_regions (take l.payload-index l.list));
   holds : IsTrue (g.D.Disk.kind l.fn.disk).tells → Holds (take l.payload-index l.list) l.end ((g.D.Disk.content l.disk).reading l.slot);
   run : IsTrue (g.D.Disk.kind l.fn.disk).tells → RunSpares g.D.Disk.content g.D.Disk.moment g.D.Disk.images l.slot l.fn.disk l.disk;
-  room : IsTrue (g.D.Disk.kind l.fn.disk).tells → InChunks l.end (length ((g.D.Disk.content l.disk).reading l.slot)) (g.D.Disk.kind l.fn.disk).limit;
+  room : IsTrue (g.D.Disk.kind l.fn.disk).tells → FilledWithin l.end (g.D.Disk.kind l.fn.disk).limit ((g.D.Disk.content l.disk).reading l.slot);
 }

@@ -1,4 +1,4 @@
-use Rattle.den_gate.proofs.Turning.{sync_others, sync_turns, flip_others, flip_turns, clear_others, clear_turns, clear_done}
+use Rattle.den_gate.proofs.Turning.{sync_others, sync_turns, sync_kept, flip_others, flip_turns, flip_kept, clear_others, clear_turns, clear_done, clear_kept}
 use Rattle.den_gate.proofs.turn.commit.Goals as goal
 
 pub returns-in_err-sync-clause-run : goal.returns-in_err-sync-clause-run
@@ -38,3 +38,15 @@ pub returns-clause-done : goal.returns-clause-done
 returns-clause-done g c = λ tells.
     clear_done g.D.Disk g.met.D.Disk.images_now c.args.slot c.sync.ensures.kind c.sync.ensures.syncs tells c.flip.ensures.run ((c.in_ok-sync.ensures.syncs tells).ok).0
     c.flip.ensures.kind c.in_ok-flip.ensures.current c.clear.ensures.run
+
+pub returns-in_err-sync-clause-kept : goal.returns-in_err-sync-clause-kept
+returns-in_err-sync-clause-kept g c = λ tells. sync_kept g.D.Disk g.met.D.Disk.images_now c.args.slot c.sync.ensures.kind c.sync.ensures.syncs tells
+
+pub returns-in_err-flip-clause-kept : goal.returns-in_err-flip-clause-kept
+returns-in_err-flip-clause-kept g c = λ tells. flip_kept g.D.Disk g.met.D.Disk.images_now c.args.slot c.sync.ensures.kind c.sync.ensures.syncs tells c.flip.ensures.run
+
+pub returns-in_err-clear-clause-kept : goal.returns-in_err-clear-clause-kept
+returns-in_err-clear-clause-kept g c = λ tells. clear_kept g.D.Disk g.met.D.Disk.images_now c.args.slot c.sync.ensures.kind c.sync.ensures.syncs tells c.flip.ensures.run c.flip.ensures.kind c.clear.ensures.run
+
+pub returns-clause-kept : goal.returns-clause-kept
+returns-clause-kept g c = λ tells. clear_kept g.D.Disk g.met.D.Disk.images_now c.args.slot c.sync.ensures.kind c.sync.ensures.syncs tells c.flip.ensures.run c.flip.ensures.kind c.clear.ensures.run
