@@ -2,7 +2,7 @@
 use Rattle.std.proofs.Common.{◌≡◌, ◌⊎◌, ◌∙◌, ℕ, ◌+◌, ◌*◌, ◌^◌, ◌<◌, ◌≤◌, List, [], ◌∷◌, length, refl, sym, ap, subst, arith}
 use Rattle.den_disk.specs.declared.place.Family.{Family}
 use Rattle.den_disk.specs.declared.place.Place.{Place}
-use Rattle.den_disk.specs.Files.{Content}
+use Rattle.den_disk.specs.Files.{Files, Content}
 use Rattle.den_disk.specs.Families.{SparesAll}
 use Rattle.den_model.specs.Regions.{placed}
 use Rattle.den_model.specs.Image.{slot_of}
@@ -12,8 +12,9 @@ use Rattle.den_gate.specs.declared.error.GateError.TheVariants as gate
 use Rattle.den_gate.specs.declared.gate.GateFile.{GateFile}
 use Rattle.den_gate.specs.Causes.{Because}
 use Rattle.den_gate.specs.Gate.{payloads, IsAtRest, IsCurrent}
-use Rattle.den_gate.proofs.Families.{rest_regions}
-use Rattle.den_gate.specs.Slot.{IsShort, room_for}
+use Rattle.den_gate.specs.Draft.{other_slot}
+use Rattle.den_gate.proofs.Written.{holds_regions}
+use Rattle.den_gate.specs.Slot.{Holds, IsShort, room_for}
 use Rattle.den_disk.specs.declared.disk.Disk.{Ghosts}
 use Rattle.den_codec.specs.declared.error.Error.TheVariants.{StorageIoError, DiskFull}
 use Rattle.den_journal.specs.Causes.{IsFullFor, IsTooShort, slot_size}
@@ -38,7 +39,7 @@ loaded_weight family gate old new is spares =
 
 -- ---- a full disk
 
-full_of : (size needed limit weight : ℕ) → needed ≡ room_for size 0 → limit < needed → 2 ^ 43 ≤ limit → size ≤ weight → limit < 4 * weight
+pub full_of : (size needed limit weight : ℕ) → needed ≡ room_for size 0 → limit < needed → 2 ^ 43 ≤ limit → size ≤ weight → limit < 4 * weight
 full_of size needed limit weight is over least within = omega arith
 
 -- what the disk refused of a change
@@ -69,23 +70,30 @@ slot_in_use family slot c own current =
     let P : Family → Type 0 = λ f. slot_of f c.reading ≡ slot in
     subst P own (λ i. record { family = slot.family; part = current.head i })
 
--- the regions of a gate file at rest end where it says
-pub rest_size : (gate : GateFile) (c : Content) → IsAtRest gate c → slot_size gate.slot c.reading ≡ gate.end
-rest_size gate c rest =
-    let ps = payloads gate c.reading in
-    omega (arith, ap found_size (rest_regions gate c rest), found 0 ps, end_is 0 ps, rest.holds.size)
+-- a slot that is short of room behind the payloads that it holds
+too_short : (slot : Place) (files : Files) (list : List (List ℕ)) (end needed size : ℕ) (sizes : ℕ → Type 0) → Holds list end (files slot) → sizes size → needed ≡ room_for end size → IsShort (files slot) end size
+    → IsTooShort slot sizes needed files
+too_short slot files list end needed size sizes holds meant room short =
+    let same : end ≡ slot_size slot files = omega (arith, ap found_size (holds_regions list end (files slot) holds), found 0 list, end_is 0 list, holds.size) in
+    record {
+      size = size;
+      meant = meant;
+      room = room ∙ ap (λ (n : ℕ). room_for n size) same;
+      short = subst (λ (n : ℕ). IsShort (files slot) n size) same short;
+    }
 
+-- and one that the family's head names, or does not name
 pub short_in_use : (family : Family) (gate : GateFile) (c : Content) (needed size : ℕ) (sizes : ℕ → Type 0) → gate.slot.family ≡ family → IsAtRest gate c → IsCurrent gate.slot c → sizes size
     → needed ≡ room_for gate.end size → IsShort (c.reading gate.slot) gate.end size → IsTooShort (slot_of family c.reading) sizes needed c.reading
 short_in_use family gate c needed size sizes own rest current meant room short =
     let P : Place → Type 0 = λ p. IsTooShort p sizes needed c.reading in
-    let end : gate.end ≡ slot_size gate.slot c.reading = sym (rest_size gate c rest) in
-    subst P (sym (slot_in_use family gate.slot c own current)) (record {
-      size = size;
-      meant = meant;
-      room = room ∙ ap (λ (n : ℕ). room_for n size) end;
-      short = subst (λ (n : ℕ). IsShort (c.reading gate.slot) n size) end short;
-    })
+    subst P (sym (slot_in_use family gate.slot c own current)) (too_short gate.slot c.reading (payloads gate c.reading) gate.end needed size sizes rest.holds meant room short)
+
+pub short_in_other : (family : Family) (slot : Place) (c : Content) (list : List (List ℕ)) (end needed size : ℕ) (sizes : ℕ → Type 0) → slot.family ≡ family → IsCurrent slot c
+    → Holds list end (c.reading (other_slot slot)) → sizes size → needed ≡ room_for end size → IsShort (c.reading (other_slot slot)) end size → IsTooShort (other_slot (slot_of family c.reading)) sizes needed c.reading
+short_in_other family slot c list end needed size sizes own current holds meant room short =
+    let P : Place → Type 0 = λ p. IsTooShort (other_slot p) sizes needed c.reading in
+    subst P (sym (slot_in_use family slot c own current)) (too_short (other_slot slot) c.reading list end needed size sizes holds meant room short)
 
 -- what the disk refused of a sync
 pub sync_refused : (rose : Type 0) (family : Family) (e : GateError) → Because ⊥ rose (λ needed limit. ⊥) (λ part offset. ⊥) e → (refusal family e ≡ StorageIoError) × rose

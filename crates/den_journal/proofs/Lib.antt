@@ -1,3 +1,4 @@
+pub mod Drafting
 pub mod Full
 pub mod Joins
 pub mod Moving

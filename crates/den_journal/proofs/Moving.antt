@@ -1,18 +1,20 @@
 -- What a call of a store leaves at each of its exits.
-use Rattle.std.proofs.Common.{◌≡◌, inl, inr, ℕ, ◌+◌, ◌≤◌, List, [], ◌∷◌, ◌++◌, Option, Some, Result, Ok, Err, refl, sym, ap, ◌∙◌, subst, arith}
+use Rattle.std.proofs.Common.{◌≡◌, inl, inr, ⊎_elim, ℕ, ◌+◌, ◌≤◌, List, [], ◌∷◌, ◌++◌, IsTrue, Option, Some, Result, Ok, Err, refl, sym, ap, ◌∙◌, subst, arith}
 use Rattle.std.specs.Result.{IsErrAnd}
 use Rattle.std.proofs.Math.Nat.{le_refl}
+use Rattle.std.proofs.lemmas.Bool.{cases_lt}
 use Rattle.den_disk.specs.declared.disk.Disk.{Ghosts}
 use Rattle.den_disk.specs.declared.place.Family.{Family}
 use Rattle.den_disk.specs.declared.place.Place.{Place}
-use Rattle.den_disk.specs.Files.{Files}
+use Rattle.den_disk.specs.Files.{Files, Kind}
 use Rattle.den_disk.specs.Families.{OldOrNew, SparesImages, SparesOthers, SparesAll, NoNewImages}
 use Rattle.den_model.specs.Regions.{Region, placed}
 use Rattle.den_model.specs.Image.{ok}
 use Rattle.den_codec.specs.declared.error.Error.{Error}
 use Rattle.den_codec.specs.declared.error.Error.TheVariants.{OutOfMemory}
 use Rattle.den_codec.specs.Full.{IsHeavy}
-use Rattle.den_gate.specs.Gate.{KeepsOrAddsFamily}
+use Rattle.den_gate.specs.Gate.{KeepsFamily, KeepsOrAddsFamily}
+use Rattle.den_gate.specs.Draft.{other_slot, FlipsFamily}
 use Rattle.den_gate.proofs.Families.{has_meaning, adds_meaning}
 use Rattle.den_journal.specs.Causes.{IsFullFor, IsOfDisk, IsRefusal}
 use Rattle.den_journal.specs.Shown.{Change, Held, IsOneOf, Shown, held_in}
@@ -62,6 +64,59 @@ moves_by disk family meaning slot list payload v w old new own was is adds other
   others = subst (λ (f : Family). SparesImages f (disk.images old) (disk.images new) (disk.moment old) (disk.moment new)) own others;
   spares = subst (λ (f : Family). SparesOthers f (disk.content old) (disk.content new)) own spares;
 }
+
+-- ---- calls on a draft, and those that put a list in the place of another
+
+module _ {D V : Type 0} (disk : Ghosts D) (family : Family) (meaning : List Region → Result V ℕ) (slot : Place) (list : List (List ℕ)) (v : V) (old new : D) (own : slot.family ≡ family) (was : meaning (placed 0 list) ≡ Ok v)
+    (others : SparesImages slot.family (disk.images old) (disk.images new) (disk.moment old) (disk.moment new)) (spares : SparesOthers slot.family (disk.content old) (disk.content new)) where
+  pub moves_kept : KeepsFamily slot list (disk.images new) (disk.moment old) (disk.moment new) → Moves disk family (held_in family meaning) (v ∷ []) old new
+  moves_kept keeps = record {
+    own = λ told t files low high i. ap ok (has_meaning family meaning slot list files own (keeps.each t files low high i) ∙ was);
+    others = subst (λ (f : Family). SparesImages f (disk.images old) (disk.images new) (disk.moment old) (disk.moment new)) own others;
+    spares = subst (λ (f : Family). SparesOthers f (disk.content old) (disk.content new)) own spares;
+  }
+
+  pub moves_flipped : (now : List (List ℕ)) (w : V) → meaning (placed 0 now) ≡ Ok w → FlipsFamily slot (other_slot slot) list now (disk.images new) (disk.moment old) (disk.moment new)
+      → Moves disk family (held_in family meaning) (v ∷ w ∷ []) old new
+  moves_flipped now w is flips = record {
+    own = λ told t files low high i. ⊎_elim (λ h. inl (ap ok (has_meaning family meaning slot list files own h ∙ was))) (λ h. inr (ap ok (has_meaning family meaning (other_slot slot) now files own h ∙ is)))
+        (flips.each t files low high i);
+    others = subst (λ (f : Family). SparesImages f (disk.images old) (disk.images new) (disk.moment old) (disk.moment new)) own others;
+    spares = subst (λ (f : Family). SparesOthers f (disk.content old) (disk.content new)) own spares;
+  }
+
+-- ---- one stretch behind another
+
+module _ {D V : Type 0} {disk : Ghosts D} {family : Family} {holds : Held V} {old mid new : D} (begins : GoesOn disk old mid) (goes : GoesOn disk mid new) (tells : Tells disk old) where
+  -- two stretches, each of whose values is one of some
+  pub moves_joined : (vs ws us : List V) → ((found : Option V) → IsOneOf vs found → IsOneOf us found) → ((found : Option V) → IsOneOf ws found → IsOneOf us found)
+      → Moves disk family holds vs old mid → Moves disk family holds ws mid new → Moves disk family holds us old new
+  moves_joined vs ws us first second one two = record {
+    own = λ told t files low high i. ⊎_elim (λ early. first (holds.of files) (one.own told t files low (omega arith) ((goes.told (subst (λ (k : Kind). IsTrue k.tells) (sym begins.same) tells)).past t files (omega arith) i))) (λ late. second (holds.of files) (two.own told t files late high i))
+        (cases_lt t (disk.moment mid));
+    others = record {
+      each = λ t files low high i. ⊎_elim (λ early. one.others.each t files low (omega arith) ((goes.told (subst (λ (k : Kind). IsTrue k.tells) (sym begins.same) tells)).past t files (omega arith) i))
+          (λ late. let b = two.others.each t files late high i in
+          let a = one.others.each (disk.moment mid) b.0 (begins.told tells).later (le_refl (disk.moment mid)) b.1 in (a.0, a.1, λ q ne. b.2 q ne ∙ a.2 q ne))
+          (cases_lt t (disk.moment mid));
+    };
+    spares = record {
+      reading = λ q ne. two.spares.reading q ne ∙ one.spares.reading q ne;
+      pending = λ q ne k h. one.spares.pending q ne k (two.spares.pending q ne k h);
+    };
+  }
+
+  -- two stretches with the same values
+  pub moves_on : (vs : List V) → Moves disk family holds vs old mid → Moves disk family holds vs mid new → Moves disk family holds vs old new
+  moves_on vs one two = moves_joined vs vs vs (λ found h. h) (λ found h. h) one two
+
+  -- a stretch that leaves the old value or the new one, behind one that leaves the old one
+  pub moves_before : (v w : V) → Moves disk family holds (v ∷ []) old mid → Moves disk family holds (v ∷ w ∷ []) mid new → Moves disk family holds (v ∷ w ∷ []) old new
+  moves_before v w one two = moves_joined (v ∷ []) (v ∷ w ∷ []) (v ∷ w ∷ []) (λ found h. inl h) (λ found h. h) one two
+
+  -- a stretch that leaves the new value, behind one that leaves the old one or the new one
+  pub moves_behind : (v w : V) → Moves disk family holds (v ∷ w ∷ []) old mid → Moves disk family holds (w ∷ []) mid new → Moves disk family holds (v ∷ w ∷ []) old new
+  moves_behind v w one two = moves_joined (v ∷ w ∷ []) (w ∷ []) (v ∷ w ∷ []) (λ found h. h) (λ found h. inr h) one two
 
 -- ---- the exits at which nothing was written
 

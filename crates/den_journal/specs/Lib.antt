@@ -1,4 +1,5 @@
 pub mod Causes
+pub mod Drafts
 pub mod Folding
 pub mod Journals
 pub mod Lies

@@ -5,6 +5,11 @@
 //! by which the value changes in the files and then in memory. `Journal::flush` puts all files on the disk. A refusal of the
 //! disk ends a journal: it is opened anew, and finds the value from before the refused call or the one after it.
 //!
+//! Regions are written anew in the family's other slot, which is in use from then on: by `Journal::rewrite` in one call, where a
+//! region and another behind it give the changed value, or by `draft_begin`, a `draft_push` for each region and `draft_commit`,
+//! where the words are too many for one buffer. From `draft_begin` to `draft_commit` a journal is not ready, so a caller that
+//! gives up between them leaves it to be opened anew.
+//!
 //! Invariants, and where each stands:
 //!
 //! 1. The regions of the slot in use, folded, give the value in memory: `Gives` in specs/Shown.antt, which is `rests` of
@@ -17,7 +22,9 @@
 //! 4. The weight is the bytes that the regions take, or would take when written anew, at most: the greater of the slot's end
 //!    and a bound by the value's size (`shown_of`), so a rewrite makes nothing heavier. A full disk is told the room that one
 //!    of the family's two slots needs for a payload that the call may put there: `full` of `IsRefused`.
-//! 5. Memory is taken before the region is written. A value that takes memory behind the write, too, says so (`lost`), and a
+//! 5. Before a draft is committed the regions in use give the old value at each moment: `IsDrafting` and `Drafts` in
+//!    specs/Drafts.antt. From the commit's Ok on its own words do: `IsCommitted`.
+//! 6. Memory is taken before the region is written. A value that takes memory behind the write, too, says so (`lost`), and a
 //!    journal that wants it then has failed: `untouched` of `IsRefused`.
 //!
 //! A call of a store is stated by one record, over what is seen of the store before and after it (`Shown`) and what the
@@ -33,6 +40,7 @@ mod family;
 mod folded;
 mod journal;
 mod replay;
+mod words;
 
 pub use folded::Folded;
 pub use journal::Journal;
