@@ -29,7 +29,7 @@ up_to_cases most e es none = elim (cases_lt most e.index) [
 ]
 
 -- where none is above it
-up_to : (most : ℕ) (es : List LogEntry) → above most es ≡ [] → AllUpTo most es
+pub up_to : (most : ℕ) (es : List LogEntry) → above most es ≡ [] → AllUpTo most es
 unfolding AllUpTo
 up_to most [] none = tt
 up_to most (e ∷ es) none = let both = up_to_cases most e es none in (both.0, up_to most es both.1)

@@ -15,3 +15,5 @@ pub mod Sending
 pub mod Stretch
 pub mod Weighing
 pub mod Applied
+pub mod Trimming
+pub mod Behind

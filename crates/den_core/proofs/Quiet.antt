@@ -1,8 +1,8 @@
 -- Steps that are made while nothing is sent, one stretch after the other.
-use Rattle.std.proofs.Common.{◌≡◌, ⊎_elim, ℕ, ◌≤◌, ◌+◌, List, [], ◌∷◌, ◌++◌, length, take, Option, Some, refl, sym, ◌∙◌, ap, subst, arith, length-append}
+use Rattle.std.proofs.Common.{◌≡◌, ⊎_elim, ℕ, ◌≤◌, ◌+◌, List, [], ◌∷◌, ◌++◌, length, take, Option, Some, inl, refl, sym, ◌∙◌, ap, subst, arith, length-append}
 use Rattle.std.proofs.lemmas.Bool.{cases_lt}
 use Rattle.std.proofs.lemmas.List.{take-append-le}
-use Rattle.std.proofs.Math.Seq.{take-append-add}
+use Rattle.std.proofs.Math.Seq.{take-append-add, take-nil}
 use Rattle.den_disk.specs.Families.{OldOrNew}
 use Rattle.den_disk.specs.Files.{Files}
 use Rattle.den_disk.specs.Goes.{IsPrefix}
@@ -74,4 +74,12 @@ module _ (holds : Files → Option Durable) where
   stays images from to kv given = record {
     each = λ t files begun ended at. record { count = 0; within = omega arith; stands = given.each t files begun ended at; sent = record { rest = []; is = refl } };
     moments = tt;
+  }
+
+  -- where none was to be made, nothing moved
+  pub stood : (images : ℕ → Files → Type 0) (from to : ℕ) (kv : Kv) → Survives holds images from to [] kv [] → OldOrNew holds images from to kv.durable kv.durable
+  stood images from to kv one = record {
+    each = λ t files begun ended at.
+        let is = one.each t files begun ended at in
+        inl (is.stands ∙ ap (λ (steps : List Step). Some (after kv steps).durable) (take-nil is.count));
   }

@@ -11,6 +11,8 @@ use Rattle.den_model.specs.Image.{durable, joined}
 use Rattle.den_model.specs.Kv.{Durable}
 use Rattle.den_model.specs.Log.{Log}
 use Rattle.den_model.specs.MapState.{MapState}
+use Rattle.den_core.specs.Joined.{joined_here}
+use Rattle.den_core.specs.Parts.{durable_of, IsCaughtUp}
 use Rattle.den_core.specs.Spared.{SparesFamily}
 
 pub log_meta : log_family ≡ meta_family → ⊥
@@ -185,3 +187,15 @@ same_gives holds images from to x moves = record { each = λ t files begun ended
 pub on_ok_just : {T E P : Type 0} (r : Result T E) → P → OnOk r P
 on_ok_just (Ok x) p = p
 on_ok_just (Err e) p = tt
+
+-- three stores whose files lie as they left them, and go together
+pub all_at_rest : (holdsG : Files → Option Log) (holdsT : Files → Option (Option HardState)) (holdsM : Files → Option MapState) (images : ℕ → Files → Type 0) (now : ℕ) (content : Content)
+    (l : Log) (h : Option HardState) (s : MapState) → IsCaughtUp l s → ((files : Files) → images now files ↔ IsImage content files)
+    → ((files : Files) → IsImage content files → holdsG files ≡ Some l) → ((files : Files) → IsImage content files → holdsT files ≡ Some h) → ((files : Files) → IsImage content files → holdsM files ≡ Some s)
+    → Gives (λ files. joined (holdsG files) (holdsT files) (holdsM files)) images now now (durable_of h s)
+all_at_rest holdsG holdsT holdsM images now content l h s caught law log meta state = record {
+  each = λ t files begun ended at.
+      let same : t ≡ now = omega arith in
+      let image = (law files).0 (subst (λ n. images n files) same at) in
+      joined_here (holdsG files) (holdsT files) (holdsM files) l h s caught (log files image) (meta files image) (state files image);
+}

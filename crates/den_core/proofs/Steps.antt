@@ -1,5 +1,5 @@
 -- The opening's steps and a turn's, where no lease is configured.
-use Rattle.std.proofs.Common.{◌≡◌, ℕ, ◌≤◌, ◌+◌, ◌&&◌, ◌++◌, false, [], ◌∷◌, Option, Some, None, nat_le, if◌then◌else◌, sym, ◌∙◌, ap, subst}
+use Rattle.std.proofs.Common.{◌≡◌, ℕ, ◌≤◌, ◌+◌, ◌&&◌, ◌++◌, false, List, [], ◌∷◌, Option, Some, None, nat_le, if◌then◌else◌, refl, sym, ◌∙◌, ap, subst}
 use Rattle.std.proofs.lemmas.List.{append-nil}
 use Rattle.den_disk.specs.Families.{OldOrNew}
 use Rattle.den_disk.specs.Files.{Files}
@@ -8,12 +8,12 @@ use Rattle.den_model.specs.declared.request.Frame.{Frame}
 use Rattle.den_model.specs.Apply.{applied}
 use Rattle.den_model.specs.Crash.{Survives}
 use Rattle.den_model.specs.Kv.{Durable, Kv}
-use Rattle.den_model.specs.Grown.{appended, IsLogAfter}
+use Rattle.den_model.specs.Grown.{appended, IsLogAfter, IsPurgedUpTo}
 use Rattle.den_model.specs.Log.{Log, changed}
 use Rattle.den_model.specs.Plan.{after, logged, opening, turn}
 use Rattle.den_model.specs.declared.region.LogRegion.TheVariants.{Append}
-use Rattle.den_model.proofs.Grown.{log_after}
-use Rattle.den_model.specs.Step.{Raise, Noop, Cleanup, Ask, answer, next_entry}
+use Rattle.den_model.proofs.Grown.{log_after, log_twice}
+use Rattle.den_model.specs.Step.{Step, Raise, Noop, Cleanup, Ask, answer, next_entry}
 use Rattle.den_model.specs.declared.log_id.HardState.{HardState}
 use Rattle.den_model.specs.declared.running.Running.{Running}
 use Rattle.den_model.specs.MapState.{MapState}
@@ -73,18 +73,28 @@ moves_as holds images from to d made same is = subst (λ x. OldOrNew holds image
 
 -- ---- the log
 
+-- entries joined it, and some were purged behind the last step
+purged_after : (old new : Log) (kv : Kv) (steps : List Step) → IsPurgedUpTo (after kv steps).durable.last_index (appended old (logged kv steps)) new → IsLogAfter old kv steps new
+purged_after old new kv steps purged =
+    subst (λ xs. IsLogAfter old kv xs new) (append-nil steps)
+    (log_twice old (appended old (logged kv steps)) new kv (after kv steps) steps [] refl (log_after old (appended old (logged kv steps)) kv steps refl) purged)
+
 -- the term's first entry joined it
 pub opening_log : (old mid new : Log) (kv between : Kv) (moment : ℕ) → kv.running.setting.lease ≡ false → between ≡ after kv (Raise ∷ []) → mid ≡ old
-    → new ≡ changed mid (Append (next_entry between moment command.Noop ∷ [])) → IsLogAfter old kv (opening kv moment) new
-opening_log old mid new kv between moment no_lease is same joined = log_after old new kv (opening kv moment)
-    (joined ∙ ap (λ l. changed l (Append (next_entry between moment command.Noop ∷ []))) same ∙ ap (λ k. changed old (Append (next_entry k moment command.Noop ∷ []))) is
-    ∙ ap (λ steps. appended old (logged kv steps)) (sym (opening_is kv moment no_lease)))
+    → IsPurgedUpTo (applied between.durable (next_entry between moment command.Noop)).last_index (changed mid (Append (next_entry between moment command.Noop ∷ []))) new → IsLogAfter old kv (opening kv moment) new
+opening_log old mid new kv between moment no_lease is same joined =
+    subst (λ steps. IsLogAfter old kv steps new) (sym (opening_is kv moment no_lease))
+    (purged_after old new kv (Raise ∷ Noop moment ∷ [])
+    (subst (λ (k : Kv). IsPurgedUpTo (applied k.durable (next_entry k moment command.Noop)).last_index (changed old (Append (next_entry k moment command.Noop ∷ []))) new) is
+    (subst (λ (l : Log). IsPurgedUpTo (applied between.durable (next_entry between moment command.Noop)).last_index (changed l (Append (next_entry between moment command.Noop ∷ []))) new) same joined)))
 
 -- the entries of a frame's step did
-pub turn_log : (old new : Log) (kv : Kv) (frame : Frame) (moment : ℕ) → kv.running.setting.lease ≡ false → new ≡ appended old (answer kv moment frame).logged
+pub turn_log : (old new : Log) (kv : Kv) (frame : Frame) (moment : ℕ) → kv.running.setting.lease ≡ false → IsPurgedUpTo (answer kv moment frame).after.durable.last_index (appended old (answer kv moment frame).logged) new
     → IsLogAfter old kv (turn kv frame moment) new
-turn_log old new kv frame moment no_lease joined = log_after old new kv (turn kv frame moment)
-    (joined ∙ ap (appended old) (sym (append-nil (answer kv moment frame).logged)) ∙ ap (λ steps. appended old (logged kv steps)) (sym (turn_is kv frame moment no_lease)))
+turn_log old new kv frame moment no_lease joined =
+    subst (λ steps. IsLogAfter old kv steps new) (sym (turn_is kv frame moment no_lease))
+    (purged_after old new kv (Ask frame moment ∷ [])
+    (subst (λ es. IsPurgedUpTo (answer kv moment frame).after.durable.last_index (appended old es) new) (sym (append-nil (answer kv moment frame).logged)) joined))
 
 -- and no others
 pub turn_joined : (old new : Log) (kv : Kv) (frame : Frame) (moment : ℕ) → kv.running.setting.lease ≡ false → HasJoined old (answer kv moment frame).logged new → HasJoined old (logged kv (turn kv frame moment)) new

@@ -26,7 +26,7 @@ use Rattle.den_model.specs.Reading.{request_in}
 use Rattle.den_model.specs.Words.{IsBytes, IsRequestWord}
 use Rattle.den_model.proofs.RequestWords.{request_found}
 use Rattle.den_core.specs.Input.{HasCome}
-use Rattle.den_core.specs.Weights.{commit_rise, frame_rise, served_weight}
+use Rattle.den_core.specs.Weights.{frame_rise, served_weight, write_rise}
 
 -- ---- what is told
 
@@ -101,7 +101,7 @@ asked_length : (w : ClientWriteRequest) (o : WriteOperation) → w.command ≡ S
 unfolding u32_word
 asked_length w o is = omega (arith, operation_length o, ap (λ x. length (operation_word x)) is)
 
-pub asked_rises : (w : ClientWriteRequest) (o : WriteOperation) → w.command ≡ Some o → commit_rise (command_of o) ≤ frame_rise (Good (request.Write w))
+pub asked_rises : (w : ClientWriteRequest) (o : WriteOperation) → w.command ≡ Some o → write_rise (command_of o) ≤ frame_rise (Good (request.Write w))
 asked_rises w o is = omega (arith, asked_length w o is)
 
 -- ---- requests that were read

@@ -1,12 +1,12 @@
 -- What contracts see of a stepper, and what its calls leave of it and of the disk that they are lent.
-use Rattle.std.specs.Prelude.{◌≡◌, ◌≤◌, ℕ, ◌+◌, List, [], Option, Some, Result, OnOk, IfErr}
+use Rattle.std.specs.Prelude.{◌≡◌, ◌≤◌, ℕ, ◌+◌, List, [], length, Option, Some, Result, OnOk, IfErr}
 use Rattle.den_disk.specs.declared.disk.Disk.{Ghosts}
 use Rattle.den_disk.specs.declared.place.Family.TheVariants.{Snapshot as snapshot_family}
 use Rattle.den_disk.specs.Families.{OldOrNew}
 use Rattle.den_disk.specs.Files.{Files, Content, IsImage}
 use Rattle.den_model.specs.Crash.{Survives}
 use Rattle.den_model.specs.Entries.{LogEntry}
-use Rattle.den_model.specs.Grown.{appended, IsLogAfter}
+use Rattle.den_model.specs.Grown.{appended, IsLogAfter, IsPurgedUpTo}
 use Rattle.den_model.specs.Kv.{Durable, Kv}
 use Rattle.den_model.specs.Log.{Log}
 use Rattle.den_model.specs.Plan.{after}
@@ -18,16 +18,25 @@ use Rattle.den_core.specs.Full.{IsFullBy}
 use Rattle.den_core.specs.Refusals.{FailsOrStays, HasJoined, IsServeRefusal}
 use Rattle.den_core.specs.Spared.{SparesFamily}
 
--- What is seen of a stepper at a moment: all that it holds; its log; its weight, the bytes that its files and the
--- calls since it was opened handed it, at most; that it can go on; that a refusal left it of no more use; and that its
--- files lie on the disk as its last call left them.
+-- What is seen of a stepper at a moment: all that it holds; its log; how many entries the log may hold behind a step,
+-- which no call changes; its weight, the bytes that its files and the calls since it was opened handed it, at most; that
+-- it can go on; that a refusal left it of no more use; and that its files lie on the disk as its last call left them.
 pub record Seen : Type 1 where
   pub kv : Kv
   pub log : Log
+  pub most : ℕ
   pub weight : ℕ
   pub ready : Type 0
   pub failed : Type 0
   pub rests : Content → Type 0
+
+-- the log holds no more entries than it may
+abbrev pub LogIsShort : Seen → Type 0
+LogIsShort s = length s.log.entries ≤ s.most
+
+-- each image at this moment gives a log of no more than so many entries
+pub record GivesShortLog (logs : Files → Option Log) (images : ℕ → Files → Type 0) (t most : ℕ) : Type 0 where
+  pub each : (files : Files) → images t files → (log : Log) × (logs files ≡ Some log) × (length log.entries ≤ most)
 
 -- What a stepper says of files: whether it tells what they give, which no call changes; what they stand for; and the
 -- log that they give.
@@ -79,14 +88,16 @@ module _ {D : Type 0} (disk : Ghosts D) where
     pub record Makes {T : Type 0} (says : Says) (steps : List Step) (rise : ℕ) (written : Type 0) (result : Result T Error) : Type 0 where
       pub goes_on : GoesOn disk old new
       pub snapshot : Tells disk old → SparesFamily snapshot_family disk.content disk.moment disk.images old new
+      pub same_most : now.most ≡ was.most
       pub survives : Tells disk old → says.told → Survives says.holds (disk.images new) (disk.moment old) (disk.moment new) [] was.kv steps
       pub done : OnOk result (Made steps rise)
       pub refused : IfErr result (IsRefused rise written)
 
-    -- a stepper of this durable part, in whose log are these entries more
+    -- A stepper of this durable part, in whose log are these entries more. Entries up to the last that was applied may have
+    -- been purged behind them.
     pub record Changed (to : Durable) (entries : List LogEntry) (rise : ℕ) : Type 0 where
       pub durable : now.kv.durable ≡ to
-      pub logged : now.log ≡ appended was.log entries
+      pub logged : IsPurgedUpTo to.last_index (appended was.log entries) now.log
       pub weight : now.weight ≤ was.weight + rise
       pub rests : Tells disk old → now.rests (disk.content new)
 
@@ -95,16 +106,19 @@ module _ {D : Type 0} (disk : Ghosts D) where
     pub record Changes {T : Type 0} (says : Says) (to : Durable) (entries : List LogEntry) (rise : ℕ) (result : Result T Error) : Type 0 where
       pub goes_on : GoesOn disk old new
       pub snapshot : Tells disk old → SparesFamily snapshot_family disk.content disk.moment disk.images old new
+      pub same_most : now.most ≡ was.most
       pub moves : Tells disk old → says.told → OldOrNew says.holds (disk.images new) (disk.moment old) (disk.moment new) was.kv.durable to
       pub done : OnOk result (Changed to entries rise)
       pub refused : IfErr result (IsRefused rise (HasJoined was.log entries now.log))
 
-    -- A call that serves frames. A full disk is told by the weight that it comes to at most. The link may refuse it
-    -- too, where its count of faults rose. The snapshot's files are left alone.
+    -- A call that serves frames. A log that was short at entry is at Ok. A full disk is told by the weight that it comes to
+    -- at most. The link may refuse it too, where its count of faults rose. The snapshot's files are left alone.
     pub record Serves {T : Type 0} (link_faulted : Type 0) (most : ℕ) (result : Result T Error) : Type 0 where
       pub goes_on : GoesOn disk old new
       pub snapshot : Tells disk old → SparesFamily snapshot_family disk.content disk.moment disk.images old new
+      pub same_most : now.most ≡ was.most
       pub ready : OnOk result now.ready
       pub rests : OnOk result (Tells disk old → now.rests (disk.content new))
+      pub short : OnOk result (LogIsShort was → LogIsShort now)
       pub refused : IfErr result (IsServeRefusal (Faulted disk old new) link_faulted (disk.kind old).limit)
       pub full : IfErr result (IsFullBy (disk.kind old).limit most)

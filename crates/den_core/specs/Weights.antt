@@ -33,7 +33,15 @@ raise_rise = store_rise 21
 abbrev pub commit_rise : Command → ℕ
 commit_rise command = 2 * store_rise (24 + length (command_word command))
 
+-- a purge's region has an index and a term
+abbrev pub trim_rise : ℕ
+trim_rise = store_rise 0
+
+-- a command is committed, and then entries may be purged
+abbrev pub write_rise : Command → ℕ
+write_rise command = commit_rise command + trim_rise
+
 -- what a frame comes to
 abbrev pub asked_rise : Asked → ℕ
-asked_rise (Commit command) = commit_rise command
+asked_rise (Commit command) = write_rise command
 asked_rise (Say reply) = 0

@@ -7,7 +7,7 @@ ghost use Rattle.den_model.specs.Step.{answer, answer_to, answered, command_of, 
 ghost use Rattle.den_model.specs.MapState.{part_of};
 ghost use Rattle.den_core.specs.Asked.{outcome_of, HasRoom};
 ghost use Rattle.den_core.specs.Parts.{IsPlain};
-ghost use Rattle.den_core.specs.Weights.{asked_rise, commit_rise, frame_rise};
+ghost use Rattle.den_core.specs.Weights.{asked_rise, frame_rise, write_rise};
 
 use den_codec::{
     Blob, ClientResponse, ClientResponsePayload, Command, Error, ErrorCode, Frame, KvEntry,
@@ -82,7 +82,7 @@ fn ask_write(running: &Running, last_index: u64, command: Command) -> Asked
     ensures asked { (d : Durable) (moment : ℕ) → d.last_index ≡ last_index
         → write (record { durable = d; running = running.now }) moment command ≡ outcome_of (record { durable = d; running = running.now }) moment result }
     ensures room { HasRoom last_index result }
-    ensures rise { asked_rise result ≤ commit_rise command }
+    ensures rise { asked_rise result ≤ write_rise command }
 {
     if has_ttl(&command) && !running.setting.lease {
         return Asked::Say(Reply::Refused(Refusal::FeatureNotEnabled));

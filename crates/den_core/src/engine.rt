@@ -1,16 +1,20 @@
 //! The engine: the next entry into the log and onto the map, and the answer.
-ghost use Rattle.std.specs.Prelude.{◌≡◌, ◌<◌, ◌≤◌, ◌^◌, ◌-◌, ◌+◌, IsTrue, [], ◌∷◌, Option, Some, OnOk, IfOk, IfErr, true, false};
+ghost use Rattle.std.specs.Prelude.{◌≡◌, ◌<◌, ◌≤◌, ◌^◌, ◌-◌, ◌+◌, IsTrue, [], ◌∷◌, Option, Some, OnOk, IfOk, IfErr, true, false, nat_lt};
 ghost use Rattle.den_disk.specs.Files.{Content};
 ghost use Rattle.den_model.specs.Apply.{applied, succeeds};
+ghost use Rattle.den_model.specs.Grown.{HasTermOf};
 ghost use Rattle.den_model.specs.Image.{joined, term_of};
+ghost use Rattle.den_model.specs.Log.{changed, floor, last_index};
+ghost use Rattle.den_model.specs.declared.region.LogRegion.TheVariants.{Append};
 ghost use Rattle.den_model.specs.Step.{answer, has_ttl, next_entry};
-ghost use Rattle.den_core.specs.Making.{CanGoOn, Changes};
+ghost use Rattle.den_core.specs.Making.{CanGoOn, Changes, LogIsShort, Makes};
 ghost use Rattle.den_core.specs.Parts.{durable_of, kv_of, raised_of, vote_of, HasFailed, IsCaughtUp, IsPlain, IsReady, AllRest};
-ghost use Rattle.den_core.specs.Weights.{commit_rise, frame_rise, raise_rise};
+ghost use Rattle.den_core.specs.Weights.{commit_rise, frame_rise, raise_rise, trim_rise, write_rise};
 ghost use Rattle.den_state.specs.Machine.{AtRest, rest_hold};
 
 use crate::applying::apply_at_rest;
 use crate::ask::{Asked, answered, ask};
+use crate::recovery::floor;
 use crate::{StepOut, Stepper};
 use den_codec::{
     ClientResponsePayload, Command, Entry, Error, Frame, HardState, Reply, Rows, Running, VotedFor,
@@ -28,18 +32,22 @@ pub struct Engine<G, T, M> {
     meta: T,
     state: M,
     running: Running,
+    /// How many entries the log may hold behind a step.
+    most: u64,
     failed: bool,
     alloc: Global,
 }
 
 impl<G, T, M> Engine<G, T, M> {
-    /// Of stores that go together: the map has each entry of the log.
+    /// Of stores that go together: the map has each entry of the log. Behind a step the log may hold so many entries at
+    /// most.
     pub fn new<D: Disk>(
         alloc: Global,
         log: G,
         meta: T,
         state: M,
         running: Running,
+        most: u64,
     ) -> Engine<G, T, M>
     where
         G: LogStore<D>,
@@ -52,6 +60,7 @@ impl<G, T, M> Engine<G, T, M> {
         requires plain { IsPlain running }
         ensures kv { (⟦<Engine<G, T, M> as Stepper<D>>⟧.seen result).kv ≡ kv_of (T.shown meta).value (M.map state) running }
         ensures log { (⟦<Engine<G, T, M> as Stepper<D>>⟧.seen result).log ≡ (G.shown log).value }
+        ensures most { (⟦<Engine<G, T, M> as Stepper<D>>⟧.seen result).most ≡ most }
         ensures ready { (⟦<Engine<G, T, M> as Stepper<D>>⟧.seen result).ready }
         ensures weight { (⟦<Engine<G, T, M> as Stepper<D>>⟧.seen result).weight ≡ (G.shown log).weight + (T.shown meta).weight + (M.shown state).weight }
         ensures rests { (content : Content) → AllRest ((G.shown log).rests content) ((T.shown meta).rests content) (AtRest (M.shown state) (M.map state) content)
@@ -62,6 +71,7 @@ impl<G, T, M> Engine<G, T, M> {
             meta,
             state,
             running,
+            most,
             failed: false,
             alloc,
         }
@@ -131,6 +141,9 @@ fn commit<D: Disk, G: LogStore<D>, T: MetaStore<D>, M: StateMachine<D>>(
         (applied (⟦<Engine<G, T, M> as Stepper<D>>⟧.seen engine.old).kv.durable (next_entry (⟦<Engine<G, T, M> as Stepper<D>>⟧.seen engine.old).kv time command))
         (next_entry (⟦<Engine<G, T, M> as Stepper<D>>⟧.seen engine.old).kv time command ∷ []) (commit_rise command) result }
     ensures succeeded { IfOk result (λ succeeded. succeeded ≡ succeeds (⟦<Engine<G, T, M> as Stepper<D>>⟧.seen engine.old).kv.durable command) }
+    ensures logged { OnOk result ((G.shown engine.new.log).value
+        ≡ changed (G.shown engine.old.log).value (Append (next_entry (⟦<Engine<G, T, M> as Stepper<D>>⟧.seen engine.old).kv time command ∷ []))) }
+    ensures ends { OnOk result (HasTermOf (G.shown engine.new.log).value (M.map engine.new.state).mark) }
     ensures running { engine.new.running ≡ engine.old.running }
     ensures ready { OnOk result (⟦<Engine<G, T, M> as Stepper<D>>⟧.seen engine.new).ready }
     ensures meta { engine.new.meta ≡ engine.old.meta }
@@ -145,6 +158,66 @@ fn commit<D: Disk, G: LogStore<D>, T: MetaStore<D>, M: StateMachine<D>>(
     let results = apply_at_rest(&mut engine.state, disk, &chunk)?;
     engine.failed = false;
     Ok(results.as_slice()[0].succeeded)
+}
+
+/// Whether a log may hold more than so many entries: by its last index and its boundary.
+fn is_long<D: Disk, G: LogStore<D>>(log: &G, most: u64) -> bool
+    ensures { result ≡ nat_lt most (last_index (G.shown log.now).value - floor (G.shown log.now).value) }
+{
+    log.last_index() - floor::<D, G>(log) > most
+}
+
+/// Purges the log up to the map's mark, where it may hold too many entries. That moves nothing that the files stand for.
+fn trim<D: Disk, G: LogStore<D>, T: MetaStore<D>, M: StateMachine<D>>(
+    engine: &mut Engine<G, T, M>,
+    disk: &mut D,
+) -> Result<(), Error>
+    requires stands { CanGoOn D.Disk (⟦<Engine<G, T, M> as Stepper<D>>⟧.seen engine.old) disk.old }
+    requires ends { HasTermOf (G.shown engine.old.log).value (M.map engine.old.state).mark }
+    ensures makes { Makes D.Disk (⟦<Engine<G, T, M> as Stepper<D>>⟧.seen engine.old) (⟦<Engine<G, T, M> as Stepper<D>>⟧.seen engine.new) disk.old disk.new ⟦<Engine<G, T, M> as Stepper<D>>⟧.says
+        [] trim_rise ((G.shown engine.new.log).value ≡ (G.shown engine.old.log).value) result }
+    ensures short { OnOk result (LogIsShort (⟦<Engine<G, T, M> as Stepper<D>>⟧.seen engine.new)) }
+    ensures failed { IfErr result (λ e. engine.new.failed ≡ true) }
+    ensures running { engine.new.running ≡ engine.old.running }
+    ensures meta { engine.new.meta ≡ engine.old.meta }
+{
+    if !is_long::<D, G>(&engine.log, engine.most) {
+        return Ok(());
+    }
+    // The step is made, and its log is too long.
+    engine.failed = true;
+    let applied = engine.state.last_applied();
+    engine.log.purge(disk, applied)?;
+    engine.failed = false;
+    Ok(())
+}
+
+/// Commits a command, and purges the log where it may hold too many entries then. Answers whether the command succeeded.
+fn commit_and_trim<D: Disk, G: LogStore<D>, T: MetaStore<D>, M: StateMachine<D>>(
+    engine: &mut Engine<G, T, M>,
+    disk: &mut D,
+    command: Command,
+    time: u64,
+) -> Result<bool, Error>
+    requires ready { IsReady (G.shown engine.old.log).ready (T.shown engine.old.meta).ready (M.shown engine.old.state).ready
+        (G.shown engine.old.log).value (M.map engine.old.state) engine.old.running }
+    requires rests { IsTrue (D.kind disk.old).tells → (⟦<Engine<G, T, M> as Stepper<D>>⟧.seen engine.old).rests (D.content disk.old) }
+    requires room { (M.map engine.old.state).mark.index < 2 ^ 64 - 1 }
+    requires time { 1 ≤ time }
+    requires no_ttl { has_ttl command ≡ false }
+    ensures makes { Changes D.Disk (⟦<Engine<G, T, M> as Stepper<D>>⟧.seen engine.old) (⟦<Engine<G, T, M> as Stepper<D>>⟧.seen engine.new) disk.old disk.new ⟦<Engine<G, T, M> as Stepper<D>>⟧.says
+        (applied (⟦<Engine<G, T, M> as Stepper<D>>⟧.seen engine.old).kv.durable (next_entry (⟦<Engine<G, T, M> as Stepper<D>>⟧.seen engine.old).kv time command))
+        (next_entry (⟦<Engine<G, T, M> as Stepper<D>>⟧.seen engine.old).kv time command ∷ []) (write_rise command) result }
+    ensures succeeded { IfOk result (λ succeeded. succeeded ≡ succeeds (⟦<Engine<G, T, M> as Stepper<D>>⟧.seen engine.old).kv.durable command) }
+    ensures short { OnOk result (LogIsShort (⟦<Engine<G, T, M> as Stepper<D>>⟧.seen engine.new)) }
+    ensures running { engine.new.running ≡ engine.old.running }
+    ensures ready { OnOk result (⟦<Engine<G, T, M> as Stepper<D>>⟧.seen engine.new).ready }
+    ensures meta { engine.new.meta ≡ engine.old.meta }
+    ensures still { IfErr result (λ e. engine.old.failed ≡ true → engine.new.failed ≡ true) }
+{
+    let succeeded = commit(engine, disk, command, time)?;
+    trim(engine, disk)?;
+    Ok(succeeded)
 }
 
 /// Makes a frame's step, and answers its reply. A leader that nobody watches raises no event.
@@ -164,11 +237,12 @@ fn answer<D: Disk, G: LogStore<D>, T: MetaStore<D>, M: StateMachine<D>>(
       events = [];
       logged = (answer (⟦<Engine<G, T, M> as Stepper<D>>⟧.seen engine.old).kv time frame).logged;
     }) }
+    ensures short { OnOk result (LogIsShort (⟦<Engine<G, T, M> as Stepper<D>>⟧.seen engine.old) → LogIsShort (⟦<Engine<G, T, M> as Stepper<D>>⟧.seen engine.new)) }
     ensures ready { OnOk result (⟦<Engine<G, T, M> as Stepper<D>>⟧.seen engine.new).ready }
 {
     match ask::<D, M>(engine.alloc, &engine.state, &engine.running, frame)? {
         Asked::Commit(command) => {
-            let succeeded = commit(engine, disk, command, time)?;
+            let succeeded = commit_and_trim(engine, disk, command, time)?;
             Ok(answered(ClientResponsePayload::Write { succeeded }))
         }
         Asked::Say(reply) => Ok(reply),
@@ -181,6 +255,7 @@ impl<D: Disk, G: LogStore<D>, T: MetaStore<D>, M: StateMachine<D>> Stepper<D> fo
     ghost seen = { λ e. record {
       kv = kv_of (T.shown e.meta).value (M.map e.state) e.running;
       log = (G.shown e.log).value;
+      most = e.most;
       weight = (G.shown e.log).weight + (T.shown e.meta).weight + (M.shown e.state).weight;
       ready = (e.failed ≡ false) × IsReady (G.shown e.log).ready (T.shown e.meta).ready (M.shown e.state).ready (G.shown e.log).value (M.map e.state) e.running;
       failed = HasFailed e.failed (G.shown e.log).ready (T.shown e.meta).ready (M.shown e.state).ready;
@@ -205,7 +280,7 @@ impl<D: Disk, G: LogStore<D>, T: MetaStore<D>, M: StateMachine<D>> Stepper<D> fo
         raise(self, disk)?;
         // The term lacks its first entry.
         self.failed = true;
-        commit(self, disk, Command::Noop, time)?;
+        commit_and_trim(self, disk, Command::Noop, time)?;
         Ok(())
     }
 

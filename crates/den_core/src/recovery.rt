@@ -61,7 +61,7 @@ fn last_of(index: u64, entries: &[Entry]) -> u64
 }
 
 /// The index up to which entries were purged.
-fn floor<D: Disk, G: LogStore<D>>(log: &G) -> u64
+pub(crate) fn floor<D: Disk, G: LogStore<D>>(log: &G) -> u64
     ensures { result ≡ floor (G.shown log.now).value }
 {
     match log.load_purge_boundary() {
@@ -161,6 +161,7 @@ fn catch_up<D: Disk, G: LogStore<D>, T: MetaStore<D>, M: StateMachine<D>>(
     meta: T,
     state: M,
     running: Running,
+    most: u64,
     entries: &[Entry],
 ) -> Result<Engine<G, T, M>, Error>
     requires log_ready { (G.shown log).ready }
@@ -178,6 +179,7 @@ fn catch_up<D: Disk, G: LogStore<D>, T: MetaStore<D>, M: StateMachine<D>>(
     ensures opened { IfOk result (λ engine. durable (G.shown log).value (T.shown meta).value (M.map state) ≡ Some (⟦<Engine<G, T, M> as Stepper<D>>⟧.seen engine).kv.durable) }
     ensures running { IfOk result (λ engine. (⟦<Engine<G, T, M> as Stepper<D>>⟧.seen engine).kv.running ≡ running) }
     ensures log { IfOk result (λ engine. (⟦<Engine<G, T, M> as Stepper<D>>⟧.seen engine).log ≡ (G.shown log).value) }
+    ensures most { IfOk result (λ engine. (⟦<Engine<G, T, M> as Stepper<D>>⟧.seen engine).most ≡ most) }
     ensures ready { IfOk result (λ engine. (⟦<Engine<G, T, M> as Stepper<D>>⟧.seen engine).ready) }
     ensures rests { IfOk result (λ engine. IsTrue (D.kind disk.old).tells → (⟦<Engine<G, T, M> as Stepper<D>>⟧.seen engine).rests (D.content disk.new)) }
     ensures weight { IfOk result (λ engine. (⟦<Engine<G, T, M> as Stepper<D>>⟧.seen engine).weight ≤ (G.shown log).weight + (T.shown meta).weight + (M.shown state).weight + store_rise (entries_size entries.now)) }
@@ -186,12 +188,13 @@ fn catch_up<D: Disk, G: LogStore<D>, T: MetaStore<D>, M: StateMachine<D>>(
 {
     let mut state = state;
     apply_all(&mut state, disk, entries)?;
-    Ok(Engine::new::<D>(alloc, log, meta, state, running))
+    Ok(Engine::new::<D>(alloc, log, meta, state, running, most))
 }
 
 /// Brings stores together as they were opened: the log's entries above the map's mark are applied, which moves nothing
 /// that the files stand for. Where log and map disagree, where a key has an expiry or an entry to apply a time to live,
-/// and where no term or index is left, it refuses, with nothing written.
+/// and where no term or index is left, it refuses, with nothing written. Behind a step the log may hold so many entries at
+/// most.
 pub fn recover<D: Disk, G: LogStore<D>, T: MetaStore<D>, M: StateMachine<D>>(
     alloc: Global,
     disk: &mut D,
@@ -199,6 +202,7 @@ pub fn recover<D: Disk, G: LogStore<D>, T: MetaStore<D>, M: StateMachine<D>>(
     meta: T,
     state: M,
     running: Running,
+    most: u64,
 ) -> Result<Engine<G, T, M>, Error>
     requires log_ready { (G.shown log).ready }
     requires meta_ready { (T.shown meta).ready }
@@ -213,6 +217,7 @@ pub fn recover<D: Disk, G: LogStore<D>, T: MetaStore<D>, M: StateMachine<D>>(
     ensures opened { IfOk result (λ engine. durable (G.shown log).value (T.shown meta).value (M.map state) ≡ Some (⟦<Engine<G, T, M> as Stepper<D>>⟧.seen engine).kv.durable) }
     ensures running { IfOk result (λ engine. (⟦<Engine<G, T, M> as Stepper<D>>⟧.seen engine).kv.running ≡ running) }
     ensures log { IfOk result (λ engine. (⟦<Engine<G, T, M> as Stepper<D>>⟧.seen engine).log ≡ (G.shown log).value) }
+    ensures most { IfOk result (λ engine. (⟦<Engine<G, T, M> as Stepper<D>>⟧.seen engine).most ≡ most) }
     ensures ready { IfOk result (λ engine. (⟦<Engine<G, T, M> as Stepper<D>>⟧.seen engine).ready) }
     ensures rests { IfOk result (λ engine. IsTrue (D.kind disk.old).tells → (⟦<Engine<G, T, M> as Stepper<D>>⟧.seen engine).rests (D.content disk.new)) }
     ensures term { IfOk result (λ engine. (⟦<Engine<G, T, M> as Stepper<D>>⟧.seen engine).kv.durable.term < 2 ^ 64 - 1) }
@@ -232,6 +237,6 @@ pub fn recover<D: Disk, G: LogStore<D>, T: MetaStore<D>, M: StateMachine<D>>(
     let lease = needs_lease::<D, M>(&state, entries);
     match refusal::<D, G, T>(&log, &meta, mark, entries, lease) {
         Some(refused) => Err(refused),
-        None => catch_up(alloc, disk, log, meta, state, running, entries),
+        None => catch_up(alloc, disk, log, meta, state, running, most, entries),
     }
 }

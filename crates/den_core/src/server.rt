@@ -6,7 +6,7 @@ ghost use Rattle.den_model.specs.Frames.{framed, frames};
 ghost use Rattle.den_model.specs.Plan.{turn, turns, plan};
 ghost use Rattle.den_core.specs.Answers.{frames_of};
 ghost use Rattle.den_core.specs.Early.{EarlyIsRefused};
-ghost use Rattle.den_core.specs.Making.{CanGoOn, Serves};
+ghost use Rattle.den_core.specs.Making.{CanGoOn, GivesShortLog, Serves};
 ghost use Rattle.den_core.specs.Refusals.{IsLinkRefusal};
 ghost use Rattle.den_core.specs.Weights.{frame_rise, run_weight, served_weight};
 
@@ -170,6 +170,10 @@ pub fn run_from<D: Disk, L: Link, C: Clock, S: Stepper<D>>(
         → let readings = added (C.readings clock.old) (C.readings clock.new) in
         IsServed S.says.holds S.says.logs (D.images disk.new) (D.moment disk.new) (L.left link.new) (length readings) (length (frames limit (L.left link.old)))
         (added (L.sent link.old) (L.sent link.new)) (S.seen stepper.old).kv (S.seen stepper.old).log (plan (S.seen stepper.old).kv (frames limit (L.left link.old)) readings)) }
+
+    // The log that the files give then is short.
+    ensures short { OnOk result (IsTrue (D.kind disk.old).tells → S.says.told
+        → GivesShortLog S.says.logs (D.images disk.new) (D.moment disk.new) (S.seen stepper.old).most) }
 
     // At every exit, and after a crash at any moment, inside a call too, the disk stands for the state after a prefix
     // of the plan that holds each step of which a byte was sent.

@@ -1,8 +1,8 @@
 //! What the loop over frames sees of an engine.
-ghost use Rattle.std.specs.Prelude.{◌≡◌, ◌↔◌, ◌<◌, ◌≤◌, ◌^◌, ◌+◌, ◌-◌, IsTrue, IfOk};
+ghost use Rattle.std.specs.Prelude.{◌≡◌, ◌↔◌, ◌<◌, ◌≤◌, ◌^◌, ◌+◌, ◌-◌, IsTrue, OnOk, IfOk};
 ghost use Rattle.den_model.specs.Plan.{logged, output, opening, turn};
 ghost use Rattle.den_core.specs.Answers.{frames_of};
-ghost use Rattle.den_core.specs.Making.{Agrees, CanGoOn, Makes, Says, Seen};
+ghost use Rattle.den_core.specs.Making.{Agrees, CanGoOn, LogIsShort, Makes, Says, Seen};
 ghost use Rattle.den_core.specs.Refusals.{HasJoined};
 ghost use Rattle.den_core.specs.Weights.{frame_rise, opening_rise};
 
@@ -24,22 +24,24 @@ pub trait Stepper<D: Disk>: Drop {
     /// What it says of files.
     ghost says: { Says };
 
-    /// Makes the opening's steps. Where memory is wanting behind a write, the term is raised.
+    /// Makes the opening's steps. The log is short then. Where memory is wanting behind a write, the term is raised.
     fn open_at(&mut self, disk: &mut D, time: u64) -> Result<(), Error>
         requires stands { CanGoOn D.Disk (seen self.old) disk.old }
         requires time { 1 ≤ time }
         requires term { (seen self.old).kv.durable.term < 2 ^ 64 - 1 }
         requires index { (seen self.old).kv.durable.last_index < 2 ^ 64 - 1 }
         ensures makes { Makes D.Disk (seen self.old) (seen self.new) disk.old disk.new says (opening (seen self.old).kv time) opening_rise
-            ((seen self.new).kv.durable.term ≡ (seen self.old).kv.durable.term + 1) result };
+            ((seen self.new).kv.durable.term ≡ (seen self.old).kv.durable.term + 1) result }
+        ensures short { OnOk result (LogIsShort (seen self.new)) };
 
-    /// Makes a frame's steps, and answers what is to be sent. Where memory is wanting behind a write, the steps' entries
-    /// are in the log.
+    /// Makes a frame's steps, and answers what is to be sent. A log that was short stays so. Where memory is wanting behind
+    /// a write, the steps' entries are in the log.
     fn step(&mut self, disk: &mut D, frame: Frame, time: u64) -> Result<StepOut, Error>
         requires stands { CanGoOn D.Disk (seen self.old) disk.old }
         requires time { 1 ≤ time }
         ensures makes { Makes D.Disk (seen self.old) (seen self.new) disk.old disk.new says (turn (seen self.old).kv frame time) (frame_rise frame)
             (HasJoined (seen self.old).log (logged (seen self.old).kv (turn (seen self.old).kv frame time)) (seen self.new).log) result }
+        ensures short { OnOk result (LogIsShort (seen self.old) → LogIsShort (seen self.new)) }
         ensures answer { IfOk result (λ out. frames_of out.reply out.events ≡ output (seen self.old).kv (turn (seen self.old).kv frame time)) };
 
     /// Whether a refusal left it of no more use. It is opened anew then.

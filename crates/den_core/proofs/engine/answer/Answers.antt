@@ -3,7 +3,7 @@ use Rattle.den_core.specs.Asked.{outcome_of}
 use Rattle.den_core.specs.Joined.{durable_is}
 use Rattle.den_core.specs.Refusals.{HasJoined}
 use Rattle.den_core.proofs.Spared.{gives_now, gives_old, all_give, spares_still}
-use Rattle.std.proofs.Common.{◌+◌, ◌≤◌, IfErr, rules, arith, ap, refl, subst, sym, ◌∙◌}
+use Rattle.std.proofs.Common.{◌+◌, ◌≤◌, IfErr, rules, arith, ap, inl, refl, subst, sym, ◌∙◌}
 use Rattle.den_core.proofs.Refusing.{at_exit, if_err_three, left_weaker, memory_stays, not_done}
 use Rattle.den_core.proofs.GoesOn.{disk_same}
 use Rattle.den_core.proofs.Steps.{moves_as}
@@ -12,7 +12,8 @@ use Rattle.den_core.specs.Full.{IsFullBy}
 use Rattle.den_core.specs.Weights.{asked_rise, frame_rise}
 use Rattle.den_disk.specs.Goes.{Rose}
 use Rattle.den_journal.specs.Causes.{IsRefusal}
-use Rattle.den_model.specs.Grown.{appended}
+use Rattle.den_model.specs.Grown.{appended, IsPurgedUpTo}
+use Rattle.den_model.specs.Step.{Outcome}
 use Rattle.den_core.proofs.engine.answer.Goals as goal
 use Rattle.den_state.specs.Machine.{AtRest, rest_hold}
 
@@ -23,6 +24,7 @@ returns-in_err-command-clause-makes g c =
     let full : IfErr c.from_residual.result (λ e. IsFullBy (g.D.Disk.kind c.args.disk.now).limit ((g.G.LogStore.shown c.args.engine.now.log).weight + (g.T.MetaStore.shown c.args.engine.now.meta).weight + (g.M.StateMachine.shown c.args.engine.now.state).weight + frame_rise c.args.frame) e) = search rules in
     record {
       goes_on = disk_same _ _ _ _ _;
+      same_most = refl;
       snapshot = λ told. spares_still _ _ _ _ _;
       moves = λ told held.
           let D = g.D.Disk in
@@ -49,6 +51,7 @@ returns-in-Say-clause-makes g c =
     let is = sym (c.in_ok-command.ensures.asked (term_of (g.T.MetaStore.shown engine.meta).value) c.args.time ∙ ap (outcome_of _ c.args.time) c.in-Say.is) in
     record {
       goes_on = disk_same _ _ _ _ _;
+      same_most = refl;
       snapshot = λ told. spares_still _ _ _ _ _;
       moves = λ told held.
           let D = g.D.Disk in
@@ -64,7 +67,7 @@ returns-in-Say-clause-makes g c =
           (λ files rest at. rest_hold g.met.M.StateMachine.lies held.2 engine.state (g.M.StateMachine.map engine.state) (D.content disk) files c.requires.stands.ready.1.state rest at) rests.state));
       done = record {
         durable = ap (λ o. o.after.durable) is;
-        logged = ap (λ o. appended (g.G.LogStore.shown engine.log).value o.logged) is;
+        logged = inl (ap (λ o. appended (g.G.LogStore.shown engine.log).value o.logged) is);
         weight = omega arith;
         rests = c.requires.stands.rests;
       };
@@ -78,13 +81,14 @@ returns-in_err-succeeded-in-Commit-clause-makes g c =
     let is = sym (c.in_ok-command.ensures.asked (term_of (g.T.MetaStore.shown engine.meta).value) c.args.time ∙ ap (outcome_of _ c.args.time) c.in-Commit.is) in
     record {
       goes_on = makes.goes_on;
+      same_most = makes.same_most;
       snapshot = makes.snapshot;
       moves = λ told held. moves_as _ _ _ _ _ _ _ (ap (λ o. o.after.durable) is) (makes.moves told held);
       done = not_done c.from_residual-in_err-succeeded-in-Commit.result c.in_err-succeeded-in-Commit.field-0.0 _ c.from_residual-in_err-succeeded-in-Commit.ensures.1;
       refused = at_exit c.from_residual-in_err-succeeded-in-Commit.result c.in_err-succeeded-in-Commit.field-0.0 _ c.from_residual-in_err-succeeded-in-Commit.ensures.1 (record {
         cause = makes.refused.cause;
         full = heavier _ _ _ _ c.in_err-succeeded-in-Commit.field-0.0 refl (omega (arith, subst (λ asked. asked_rise asked ≤ frame_rise c.args.frame) c.in-Commit.is c.in_ok-command.ensures.rise)) makes.refused.full;
-        left = left_weaker c.in_err-succeeded-in-Commit.field-0.0 _ _ _ _ (subst (λ es. HasJoined (g.G.LogStore.shown engine.log).value es (g.G.LogStore.shown c.commit.new.engine.log).value) (ap (λ o. o.logged) is)) makes.refused.left;
+        left = left_weaker c.in_err-succeeded-in-Commit.field-0.0 _ _ _ _ (subst (λ es. HasJoined (g.G.LogStore.shown engine.log).value es (g.G.LogStore.shown c.commit_and_trim.new.engine.log).value) (ap (λ o. o.logged) is)) makes.refused.left;
       });
     }
 
@@ -95,11 +99,12 @@ returns-in_ok-succeeded-in-Commit-clause-makes g c =
     let is = sym (c.in_ok-command.ensures.asked (term_of (g.T.MetaStore.shown engine.meta).value) c.args.time ∙ ap (outcome_of _ c.args.time) c.in-Commit.is) in
     record {
       goes_on = makes.goes_on;
+      same_most = makes.same_most;
       snapshot = makes.snapshot;
       moves = λ told held. moves_as _ _ _ _ _ _ _ (ap (λ o. o.after.durable) is) (makes.moves told held);
       done = record {
         durable = makes.done.durable ∙ ap (λ o. o.after.durable) is;
-        logged = makes.done.logged ∙ ap (λ o. appended (g.G.LogStore.shown engine.log).value o.logged) is;
+        logged = subst (λ (o : Outcome). IsPurgedUpTo o.after.durable.last_index (appended (g.G.LogStore.shown engine.log).value o.logged) (g.G.LogStore.shown c.commit_and_trim.new.engine.log).value) is makes.done.logged;
         weight = omega (arith, makes.done.weight, subst (λ asked. asked_rise asked ≤ frame_rise c.args.frame) c.in-Commit.is c.in_ok-command.ensures.rise);
         rests = makes.done.rests;
       };

@@ -16,6 +16,7 @@ use Rattle.den_store.specs.Folds.{log_rises}
 use Rattle.den_core.proofs.Weighing.{entry_is, full_by, heavier, heavier_out}
 use Rattle.den_core.proofs.Refusing.{at_exit, fails_behind, fails_or_stays, if_err_three, not_done, untouched_only}
 use Rattle.den_core.specs.Parts.{IsCaughtUp}
+use Rattle.den_core.proofs.Trimming.{ends_with}
 use Rattle.den_core.proofs.engine.commit.Goals as goal
 use Rattle.den_state.specs.Machine.{AtRest, rest_hold, rest_own}
 
@@ -25,6 +26,7 @@ returns-in_err-persist_entries-clause-makes g c =
     let writes = c.in_err-persist_entries.ensures.writes in
     record {
       goes_on = writes.goes_on;
+      same_most = refl;
       snapshot = λ told. spares_by _ _ _ _ _ _ _ snapshot_log ((writes.moves told).spares) ((writes.moves told).others);
       moves = λ told held.
           let D = g.D.Disk in
@@ -97,6 +99,7 @@ returns-in_err-results-clause-makes g c =
     let cause : IfErr c.from_residual-in_err-results.result (λ e. IsRefusal (Rose (g.D.Disk.faults c.args.disk.now) (g.D.Disk.faults c.apply_at_rest.new.disk)) (g.D.Disk.kind c.args.disk.now).limit e) = search rules in
     record {
       goes_on = disk_twice _ _ _ _ _ _ _ persist.writes.goes_on c.apply_at_rest.ensures.disk;
+      same_most = refl;
       snapshot = spares_twice _ _ _ _ _ _ _ _ _ c.persist_entries.ensures.writes.goes_on c.apply_at_rest.ensures.disk
           (λ told. spares_by _ _ _ _ _ _ _ snapshot_log ((c.persist_entries.ensures.writes.moves told).spares) ((c.persist_entries.ensures.writes.moves told).others))
           (λ told. spares_by _ _ _ _ _ _ _ snapshot_state (c.apply_at_rest.ensures.spares told) (c.apply_at_rest.ensures.others told));
@@ -152,6 +155,7 @@ pub returns-clause-makes : goal.returns-clause-makes
 returns-clause-makes g c =
     record {
       goes_on = disk_twice _ _ _ _ _ _ _ c.persist_entries.ensures.writes.goes_on c.apply_at_rest.ensures.disk;
+      same_most = refl;
       snapshot = spares_twice _ _ _ _ _ _ _ _ _ c.persist_entries.ensures.writes.goes_on c.apply_at_rest.ensures.disk
           (λ told. spares_by _ _ _ _ _ _ _ snapshot_log ((c.persist_entries.ensures.writes.moves told).spares) ((c.persist_entries.ensures.writes.moves told).others))
           (λ told. spares_by _ _ _ _ _ _ _ snapshot_state (c.apply_at_rest.ensures.spares told) (c.apply_at_rest.ensures.others told));
@@ -201,7 +205,7 @@ returns-clause-makes g c =
             let engine = c.args.engine.now in
             let l = (g.G.LogStore.shown engine.log).value in
             let is = next_is (g.T.MetaStore.shown engine.meta).value (g.M.StateMachine.map engine.state) engine.running _ _ c.args.time c.args.command c.of.result c.of.ensures (ap (λ i. i.index) c.last_applied-index.ensures) c.current_term-term.ensures in
-            c.in_ok-persist_entries.ensures.writes.done.value ∙ ap (λ e. changed l (Append (e ∷ []))) is;
+            inl (c.in_ok-persist_entries.ensures.writes.done.value ∙ ap (λ e. changed l (Append (e ∷ []))) is);
         weight = omega (arith, c.in_ok-persist_entries.ensures.writes.done.weight, c.in_ok-results.ensures.weight, entry_is c.of.result _ _ _ c.args.command c.of.ensures);
         rests = λ told.
             let persist = c.in_ok-persist_entries.ensures in
@@ -217,6 +221,18 @@ returns-clause-makes g c =
       };
       refused = tt;
     }
+
+pub returns-clause-logged : goal.returns-clause-logged
+returns-clause-logged g c =
+    let engine = c.args.engine.now in
+    let l = (g.G.LogStore.shown engine.log).value in
+    let is = next_is (g.T.MetaStore.shown engine.meta).value (g.M.StateMachine.map engine.state) engine.running _ _ c.args.time c.args.command c.of.result c.of.ensures (ap (λ i. i.index) c.last_applied-index.ensures) c.current_term-term.ensures in
+    c.in_ok-persist_entries.ensures.writes.done.value ∙ ap (λ e. changed l (Append (e ∷ []))) is
+
+pub returns-clause-ends : goal.returns-clause-ends
+returns-clause-ends g c =
+    let engine = c.args.engine.now in
+    ends_with (g.G.LogStore.shown engine.log).value (g.M.StateMachine.map engine.state) c.of.result _ _ c.in_ok-persist_entries.ensures.writes.done.value c.in_ok-results.ensures.applied
 
 pub returns-clause-ready : goal.returns-clause-ready
 returns-clause-ready g c =

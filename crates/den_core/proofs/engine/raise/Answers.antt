@@ -18,6 +18,7 @@ returns-clause-makes g c =
     let writes = c.save_hard_state.ensures.writes in
     record {
       goes_on = writes.goes_on;
+      same_most = refl;
       snapshot = λ told. spares_by _ _ _ _ _ _ _ snapshot_meta ((writes.moves told).spares) ((writes.moves told).others);
       moves = λ told held.
           let D = g.D.Disk in
@@ -36,7 +37,7 @@ returns-clause-makes g c =
           (λ files rest at. rest_hold g.met.M.StateMachine.lies held.2 engine.state (g.M.StateMachine.map engine.state) (D.content disk) files c.requires.ready.state rest at) (c.requires.rests told).state) ((save.writes.moves told).others));
       done = on_ok_weaker c.save_hard_state.result (λ done. record {
         durable = ap (λ h. durable_of h (g.M.StateMachine.map engine.state)) done.value ∙ ap (λ n. part_of (g.M.StateMachine.map engine.state) (n + 1)) c.current_term-term.ensures;
-        logged = refl;
+        logged = inl refl;
         weight = omega (arith, done.weight, hard_state_length (record { current_term = c.current_term-term.result + 1; voted_for = c.vote.result }));
         rests = λ told. let engine = c.args.engine.now in
             let save = c.save_hard_state.ensures in

@@ -1,4 +1,4 @@
-use Rattle.std.proofs.Common.{◌-◌, IsTrue, IfErr, rules, sym, subst}
+use Rattle.std.proofs.Common.{◌-◌, IsTrue, IfErr, rules, arith, sym, ◌∙◌, subst}
 use Rattle.std.proofs.lemmas.Result.{on_ok_weaker}
 use Rattle.den_disk.specs.Files.{Kind}
 use Rattle.den_model.specs.Crash.{Stands, Tells}
@@ -55,6 +55,20 @@ returns-clause-served g c = on_ok_three c.serve.result (λ done ready rests told
     g.S.Stepper.says.logs (g.D.Disk.images disk) (g.D.Disk.moment disk) stands
     (λ files at. g.met.S.Stepper.agrees.rests_log says s (g.D.Disk.content disk) files ready (rests here.disk_tells) ((g.met.D.Disk.images_now disk files then).0 at))) c.serve.ensures.done c.serve.ensures.serves.ready c.serve.ensures.serves.rests
 
+pub returns-clause-short : goal.returns-clause-short
+returns-clause-short g c = on_ok_three c.serve.result (λ short ready rests told says.
+    let disk = c.serve.new.disk in
+    let s = c.serve.new.stepper in
+    let here : IsTrue (g.D.Disk.kind c.open_at.new.disk).tells = subst (λ (k : Kind). IsTrue k.tells) (sym c.open_at.ensures.makes.goes_on.same) told in
+    let then : IsTrue (g.D.Disk.kind disk).tells = subst (λ (k : Kind). IsTrue k.tells) (sym c.serve.ensures.serves.goes_on.same) here in
+    record {
+      each = λ files at. (
+        (g.S.Stepper.seen s).log,
+        g.met.S.Stepper.agrees.rests_log says s (g.D.Disk.content disk) files ready (rests here) ((g.met.D.Disk.images_now disk files then).0 at),
+        omega (arith, short c.in_ok-open_at.ensures.short, c.serve.ensures.serves.same_most, c.open_at.ensures.makes.same_most),
+      );
+    }) c.serve.ensures.serves.short c.serve.ensures.serves.ready c.serve.ensures.serves.rests
+
 pub returns-clause-serves : goal.returns-clause-serves
 returns-clause-serves g c =
     let serves = c.serve.ensures.serves in
@@ -63,6 +77,8 @@ returns-clause-serves g c =
     record {
       goes_on = disk_twice _ _ _ _ _ _ _ c.open_at.ensures.makes.goes_on serves.goes_on;
       snapshot = spares_twice _ _ _ _ _ _ _ _ _ c.open_at.ensures.makes.goes_on serves.goes_on c.open_at.ensures.makes.snapshot serves.snapshot;
+      same_most = serves.same_most ∙ c.open_at.ensures.makes.same_most;
+      short = on_ok_weaker c.serve.result (λ short any. short c.in_ok-open_at.ensures.short) serves.short;
       ready = serves.ready;
       rests = on_ok_weaker c.serve.result (λ rests told. rests (subst (λ (k : Kind). IsTrue k.tells) (sym c.open_at.ensures.makes.goes_on.same) told)) serves.rests;
       refused = refused;

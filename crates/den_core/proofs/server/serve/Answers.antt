@@ -21,6 +21,8 @@ frames-init g c = record {
   clock = clock_same _ _ _;
   counted = λ told. refl;
   weight = omega arith;
+  most = refl;
+  short = λ short. short;
   ready = c.requires.stands.ready;
   rests = c.requires.stands.rests;
   so_far = λ told.
@@ -61,6 +63,8 @@ returns-in_err-serve_frame-clause-serves g c =
     record {
       goes_on = disk_twice _ _ _ _ _ _ _ inv.disk c.serve_frame.ensures.serves.goes_on;
       snapshot = spares_twice _ _ _ _ _ _ _ _ _ inv.disk c.serve_frame.ensures.serves.goes_on inv.snapshot c.serve_frame.ensures.serves.snapshot;
+      same_most = c.serve_frame.ensures.serves.same_most ∙ inv.most;
+      short = not_done c.from_residual-in_err-serve_frame.result c.in_err-serve_frame.field-0.0 _ c.from_residual-in_err-serve_frame.ensures.1;
       ready = not_done c.from_residual-in_err-serve_frame.result c.in_err-serve_frame.field-0.0 _ c.from_residual-in_err-serve_frame.ensures.1;
       rests = not_done c.from_residual-in_err-serve_frame.result c.in_err-serve_frame.field-0.0 _ c.from_residual-in_err-serve_frame.ensures.1;
       refused = refused;
@@ -84,6 +88,8 @@ frames-preserved g c =
           counted_on (g.L.Link.taken c.args.link.now) (g.L.Link.taken c.next.new.link) (g.L.Link.taken c.serve_frame.new.link) (g.L.Link.left c.args.link.now) (g.L.Link.left c.next.new.link) (g.L.Link.left c.serve_frame.new.link)
           c.serve_frame.ensures.taken (c.serve_frame.ensures.left then_tells) (c.next.ensures.counted link_tells ∙ inv.counted told);
       weight = omega (arith, c.in_ok-serve_frame.ensures.weight, served_on (g.S.Stepper.seen c.args.stepper.now).weight (g.S.Stepper.seen c.frames.stepper).weight (g.L.Link.taken c.args.link.now) (g.L.Link.taken c.frames.link) (g.L.Link.taken c.next.new.link) (g.L.Link.taken c.serve_frame.new.link) _ c.in-Some.frame c.in-Some.is inv.weight inv.link.more c.in_ok-found.ensures.size c.serve_frame.ensures.taken c.next.ensures.on.more);
+      most = c.serve_frame.ensures.serves.same_most ∙ inv.most;
+      short = λ short. c.in_ok-serve_frame.ensures.serves.short (inv.short short);
       ready = c.in_ok-serve_frame.ensures.serves.ready;
       rests = λ told. c.in_ok-serve_frame.ensures.serves.rests (subst (λ (k : Kind). IsTrue k.tells) (sym inv.disk.same) told);
       so_far = λ told.

@@ -3,6 +3,7 @@ use Rattle.den_disk.specs.declared.place.Family.TheVariants.{Snapshot as snapsho
 use Rattle.den_disk.specs.Goes.{DiskGoesOn, LinkGoesOn, ClockGoesOn, added}
 use Rattle.den_model.specs.Crash.{Tells}
 use Rattle.den_model.specs.Frames.{frames}
+use Rattle.den_core.specs.Making.{LogIsShort}
 use Rattle.den_core.specs.Spared.{SparesFamily}
 use Rattle.den_core.specs.Weights.{served_weight}
 use Rattle.den_core.proofs.FramesSoFar.{SoFar}
@@ -22,6 +23,8 @@ invariant-frames g l =
       clock : ClockGoesOn C.tells C.readings l.fn.clock l.clock;
       counted : IsTrue (L.tells l.fn.link) → L.taken l.link + length (L.left l.link) ≡ L.taken l.fn.link + length (L.left l.fn.link);
       weight : (S.seen l.stepper).weight ≤ served_weight (S.seen l.fn.stepper).weight (L.taken l.link - L.taken l.fn.link);
+      most : (S.seen l.stepper).most ≡ (S.seen l.fn.stepper).most;
+      short : LogIsShort (S.seen l.fn.stepper) → LogIsShort (S.seen l.stepper);
       ready : (S.seen l.stepper).ready;
       rests : IsTrue (D.kind l.fn.disk).tells → (S.seen l.stepper).rests (D.content l.disk);
       so_far : Tells (D.kind l.fn.disk).tells (L.tells l.fn.link) (C.tells l.clock)

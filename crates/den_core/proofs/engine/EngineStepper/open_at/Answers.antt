@@ -9,76 +9,73 @@ use Rattle.den_core.proofs.Steps.{opening_begun, opening_log, opening_made, open
 use Rattle.den_core.proofs.Refusing.{at_exit, fails_behind, left_weaker, not_done, refusal_behind}
 use Rattle.den_core.proofs.engine.EngineStepper.open_at.Goals as goal
 
-pub returns-in_err-raise : goal.returns-in_err-raise
-returns-in_err-raise g c =
+pub returns-in_err-raise-clause-makes : goal.returns-in_err-raise-clause-makes
+returns-in_err-raise-clause-makes g c =
     let makes = c.in_err-raise.ensures.makes in
     record {
-      makes = record {
-        goes_on = makes.goes_on;
-        snapshot = makes.snapshot;
-        survives = λ told held.
-            let self = c.args.self.now in
-            opening_begun _ _ _ _ (kv_of (g.T.MetaStore.shown self.meta).value (g.M.StateMachine.map self.state) self.running) c.args.time c.requires.stands.ready.1.plain.no_lease (c.raise.ensures.makes.moves told held);
-        done = not_done c.from_residual.result c.in_err-raise.field-0.0 _ c.from_residual.ensures.1;
-        refused = at_exit c.from_residual.result c.in_err-raise.field-0.0 _ c.from_residual.ensures.1 (record {
-          cause = makes.refused.cause;
-          full = heavier _ _ _ _ c.in_err-raise.field-0.0 refl (omega arith) makes.refused.full;
-          left = left_weaker c.in_err-raise.field-0.0 _ _ _ _ (λ joined. absurd (omega (arith, joined.some))) makes.refused.left;
-        });
-      };
+      goes_on = makes.goes_on;
+      same_most = makes.same_most;
+      snapshot = makes.snapshot;
+      survives = λ told held.
+          let self = c.args.self.now in
+          opening_begun _ _ _ _ (kv_of (g.T.MetaStore.shown self.meta).value (g.M.StateMachine.map self.state) self.running) c.args.time c.requires.stands.ready.1.plain.no_lease (c.raise.ensures.makes.moves told held);
+      done = not_done c.from_residual.result c.in_err-raise.field-0.0 _ c.from_residual.ensures.1;
+      refused = at_exit c.from_residual.result c.in_err-raise.field-0.0 _ c.from_residual.ensures.1 (record {
+        cause = makes.refused.cause;
+        full = heavier _ _ _ _ c.in_err-raise.field-0.0 refl (omega arith) makes.refused.full;
+        left = left_weaker c.in_err-raise.field-0.0 _ _ _ _ (λ joined. absurd (omega (arith, joined.some))) makes.refused.left;
+      });
     }
 
 -- the term is raised and lacks its first entry
-pub returns-in_err-commit : goal.returns-in_err-commit
-returns-in_err-commit g c =
+pub returns-in_err-commit_and_trim-clause-makes : goal.returns-in_err-commit_and_trim-clause-makes
+returns-in_err-commit_and_trim-clause-makes g c =
     let raised = c.in_ok-raise.ensures in
-    let makes = c.in_err-commit.ensures.makes in
+    let makes = c.in_err-commit_and_trim.ensures.makes in
     record {
-      makes = record {
-        goes_on = disk_twice _ _ _ _ _ _ _ raised.makes.goes_on makes.goes_on;
-        snapshot = spares_twice _ _ _ _ _ _ _ _ _ raised.makes.goes_on makes.goes_on raised.makes.snapshot makes.snapshot;
-        survives = λ told held.
-            let then : IsTrue (g.D.Disk.kind c.raise.new.disk).tells = subst (λ k. IsTrue k.tells) (sym c.raise.ensures.makes.goes_on.same) told in
-            let self = c.args.self.now in
-            let kv = kv_of (g.T.MetaStore.shown self.meta).value (g.M.StateMachine.map self.state) self.running in
-            opening_made _ _ _ _ _ _ kv _ c.args.time c.requires.stands.ready.1.plain.no_lease
-            (raised_is (g.T.MetaStore.shown self.meta).value _ _ _ _ _ c.in_ok-raise.ensures.raised c.raise.ensures.map c.raise.ensures.running)
-            (c.commit.ensures.makes.goes_on.told then).past (c.raise.ensures.makes.moves told held) (c.commit.ensures.makes.moves then held);
-        done = not_done c.from_residual-in_err-commit.result c.in_err-commit.field-0.0 _ c.from_residual-in_err-commit.ensures.1;
-        refused = at_exit c.from_residual-in_err-commit.result c.in_err-commit.field-0.0 _ c.from_residual-in_err-commit.ensures.1 (record {
-          cause = refusal_behind _ _ _ _ c.in_err-commit.field-0.0 (λ rose. omega (arith, rose, raised.makes.goes_on.counts)) (ap (λ (k : Kind). k.limit) raised.makes.goes_on.same) makes.refused.cause;
-          full = heavier _ _ _ _ c.in_err-commit.field-0.0 (ap (λ (k : Kind). k.limit) raised.makes.goes_on.same) (omega (arith, raised.makes.done.weight)) makes.refused.full;
-          left = fails_behind c.in_err-commit.field-0.0 _ _ _ (inl (c.in_err-commit.ensures.still refl))
-              (ap (λ m. term_of (g.T.MetaStore.shown m).value) c.commit.ensures.meta ∙ ap term_of raised.raised);
-        });
-      };
+      goes_on = disk_twice _ _ _ _ _ _ _ raised.makes.goes_on makes.goes_on;
+      same_most = makes.same_most ∙ raised.makes.same_most;
+      snapshot = spares_twice _ _ _ _ _ _ _ _ _ raised.makes.goes_on makes.goes_on raised.makes.snapshot makes.snapshot;
+      survives = λ told held.
+          let then : IsTrue (g.D.Disk.kind c.raise.new.disk).tells = subst (λ k. IsTrue k.tells) (sym c.raise.ensures.makes.goes_on.same) told in
+          let self = c.args.self.now in
+          let kv = kv_of (g.T.MetaStore.shown self.meta).value (g.M.StateMachine.map self.state) self.running in
+          opening_made _ _ _ _ _ _ kv _ c.args.time c.requires.stands.ready.1.plain.no_lease
+          (raised_is (g.T.MetaStore.shown self.meta).value _ _ _ _ _ c.in_ok-raise.ensures.raised c.raise.ensures.map c.raise.ensures.running)
+          (c.commit_and_trim.ensures.makes.goes_on.told then).past (c.raise.ensures.makes.moves told held) (c.commit_and_trim.ensures.makes.moves then held);
+      done = not_done c.from_residual-in_err-commit_and_trim.result c.in_err-commit_and_trim.field-0.0 _ c.from_residual-in_err-commit_and_trim.ensures.1;
+      refused = at_exit c.from_residual-in_err-commit_and_trim.result c.in_err-commit_and_trim.field-0.0 _ c.from_residual-in_err-commit_and_trim.ensures.1 (record {
+        cause = refusal_behind _ _ _ _ c.in_err-commit_and_trim.field-0.0 (λ rose. omega (arith, rose, raised.makes.goes_on.counts)) (ap (λ (k : Kind). k.limit) raised.makes.goes_on.same) makes.refused.cause;
+        full = heavier _ _ _ _ c.in_err-commit_and_trim.field-0.0 (ap (λ (k : Kind). k.limit) raised.makes.goes_on.same) (omega (arith, raised.makes.done.weight)) makes.refused.full;
+        left = fails_behind c.in_err-commit_and_trim.field-0.0 _ _ _ (inl (c.in_err-commit_and_trim.ensures.still refl))
+            (ap (λ m. term_of (g.T.MetaStore.shown m).value) c.commit_and_trim.ensures.meta ∙ ap term_of raised.raised);
+      });
     }
 
 -- the first entry is in the log
-pub returns : goal.returns
-returns g c =
+pub returns-clause-makes : goal.returns-clause-makes
+returns-clause-makes g c =
     let self = c.args.self.now in
     let raised = c.in_ok-raise.ensures in
-    let makes = c.in_ok-commit.ensures.makes in
+    let makes = c.in_ok-commit_and_trim.ensures.makes in
     let between = raised_is (g.T.MetaStore.shown self.meta).value _ _ _ _ _ c.in_ok-raise.ensures.raised c.raise.ensures.map c.raise.ensures.running in
     record {
-      makes = record {
-        goes_on = disk_twice _ _ _ _ _ _ _ raised.makes.goes_on makes.goes_on;
-        snapshot = spares_twice _ _ _ _ _ _ _ _ _ raised.makes.goes_on makes.goes_on raised.makes.snapshot makes.snapshot;
-        survives = λ told held.
-            let then : IsTrue (g.D.Disk.kind c.raise.new.disk).tells = subst (λ k. IsTrue k.tells) (sym c.raise.ensures.makes.goes_on.same) told in
-            let self = c.args.self.now in
-            let kv = kv_of (g.T.MetaStore.shown self.meta).value (g.M.StateMachine.map self.state) self.running in
-            opening_made _ _ _ _ _ _ kv _ c.args.time c.requires.stands.ready.1.plain.no_lease
-            (raised_is (g.T.MetaStore.shown self.meta).value _ _ _ _ _ c.in_ok-raise.ensures.raised c.raise.ensures.map c.raise.ensures.running)
-            (c.commit.ensures.makes.goes_on.told then).past (c.raise.ensures.makes.moves told held) (c.commit.ensures.makes.moves then held);
-        done = record {
-          state = opening_state _ _ _ _ c.args.time c.requires.stands.ready.1.plain.no_lease between makes.done.durable c.commit.ensures.running;
-          logged = opening_log _ _ _ (kv_of (g.T.MetaStore.shown self.meta).value (g.M.StateMachine.map self.state) self.running) _ c.args.time c.requires.stands.ready.1.plain.no_lease between c.raise.ensures.log makes.done.logged;
-          weight = omega (arith, raised.makes.done.weight, makes.done.weight);
-          ready = c.in_ok-commit.ensures.ready;
-          rests = λ told. makes.done.rests (subst (λ k. IsTrue k.tells) (sym raised.makes.goes_on.same) told);
-        };
-        refused = tt;
+      goes_on = disk_twice _ _ _ _ _ _ _ raised.makes.goes_on makes.goes_on;
+      same_most = makes.same_most ∙ raised.makes.same_most;
+      snapshot = spares_twice _ _ _ _ _ _ _ _ _ raised.makes.goes_on makes.goes_on raised.makes.snapshot makes.snapshot;
+      survives = λ told held.
+          let then : IsTrue (g.D.Disk.kind c.raise.new.disk).tells = subst (λ k. IsTrue k.tells) (sym c.raise.ensures.makes.goes_on.same) told in
+          let self = c.args.self.now in
+          let kv = kv_of (g.T.MetaStore.shown self.meta).value (g.M.StateMachine.map self.state) self.running in
+          opening_made _ _ _ _ _ _ kv _ c.args.time c.requires.stands.ready.1.plain.no_lease
+          (raised_is (g.T.MetaStore.shown self.meta).value _ _ _ _ _ c.in_ok-raise.ensures.raised c.raise.ensures.map c.raise.ensures.running)
+          (c.commit_and_trim.ensures.makes.goes_on.told then).past (c.raise.ensures.makes.moves told held) (c.commit_and_trim.ensures.makes.moves then held);
+      done = record {
+        state = opening_state _ _ _ _ c.args.time c.requires.stands.ready.1.plain.no_lease between makes.done.durable c.commit_and_trim.ensures.running;
+        logged = opening_log _ _ _ (kv_of (g.T.MetaStore.shown self.meta).value (g.M.StateMachine.map self.state) self.running) _ c.args.time c.requires.stands.ready.1.plain.no_lease between c.raise.ensures.log makes.done.logged;
+        weight = omega (arith, raised.makes.done.weight, makes.done.weight);
+        ready = c.in_ok-commit_and_trim.ensures.ready;
+        rests = λ told. makes.done.rests (subst (λ k. IsTrue k.tells) (sym raised.makes.goes_on.same) told);
       };
+      refused = tt;
     }

@@ -8,6 +8,7 @@ returns-in_err-reply-clause-makes g c =
     let makes = c.in_err-reply.ensures.makes in
     record {
       goes_on = makes.goes_on;
+      same_most = makes.same_most;
       snapshot = makes.snapshot;
       survives = λ told held. turn_made _ _ _ _ _ c.args.frame c.args.time c.requires.stands.ready.1.plain.no_lease (makes.moves told held);
       done = not_done c.from_residual.result c.in_err-reply.field-0.0 _ c.from_residual.ensures.1;
@@ -24,6 +25,7 @@ returns-clause-makes g c =
     let makes = c.in_ok-reply.ensures.makes in
     record {
       goes_on = makes.goes_on;
+      same_most = makes.same_most;
       snapshot = makes.snapshot;
       survives = λ told held. turn_made _ _ _ _ _ c.args.frame c.args.time c.requires.stands.ready.1.plain.no_lease (makes.moves told held);
       done = record {
