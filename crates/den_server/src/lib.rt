@@ -12,7 +12,5 @@
 mod folder;
 mod nodes;
 mod standalone;
-#[cfg(test)]
-mod tests;
 
 pub use standalone::StandaloneEngine;

@@ -7,4 +7,6 @@ mod disk;
 #[cfg(test)]
 mod lease;
 #[cfg(test)]
+mod server;
+#[cfg(test)]
 mod store;

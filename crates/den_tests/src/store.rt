@@ -148,15 +148,18 @@ fn lists<D: Disk, G: LogStore<D>>(
     Ok(same)
 }
 
+fn finds<D: Disk, G: LogStore<D>>(log: &G, pair: (u64, u64)) -> Result<bool, Fail> {
+    match log.entry(pair.0)? {
+        None => Ok(false),
+        Some(entry) => Ok(is_pair(&entry, pair)),
+    }
+}
+
 // Whether it has an entry of each of these indices, and none of index 8.
-fn finds<D: Disk, G: LogStore<D>>(log: &G, pairs: Pairs) -> Result<bool, Fail> {
+fn finds_all<D: Disk, G: LogStore<D>>(log: &G, pairs: Pairs) -> Result<bool, Fail> {
     let mut found = log.entry(8)?.is_none();
     for pair in pairs {
-        found = found
-            && match log.entry(pair.0)? {
-                None => false,
-                Some(entry) => is_pair(&entry, *pair),
-            };
+        found = found && finds::<D, G>(log, *pair)?;
     }
     Ok(found)
 }
@@ -167,7 +170,7 @@ fn answers<D: Disk, G: LogStore<D>>(log: &G, has: Has) -> Result<bool, Fail> {
         ends && lists::<D, G>(log, 0, u64::MAX, has.pairs)?
             && lists::<D, G>(log, 3, 6, has.middle)?
             && lists::<D, G>(log, 6, 3, &[])?
-            && finds::<D, G>(log, has.pairs)?,
+            && finds_all::<D, G>(log, has.pairs)?,
     )
 }
 
