@@ -95,11 +95,6 @@ pub record FilledWithin (end limit : ℕ) (file : List ℕ) : Type 0 where
   pub filled : IsFilled end file
   pub fits : length file ≤ limit
 
-pub none_filled : (limit : ℕ) (file : List ℕ) → file ≡ [] → FilledWithin 0 limit file
-none_filled limit file is =
-    let none : length file ≡ 0 = ap length is in
-    record { filled = record { none = λ e. none; some = λ le. absurd (omega (arith, le)) }; fits = omega (arith, none) }
-
 pub filled_more : (end n : ℕ) (was now : List ℕ) (limit : ℕ) → FilledWithin end limit was → end + (9 + n) ≤ 2 ^ 62 → Grows was now end n → (IsShort was end n → room_for end n ≤ limit)
     → FilledWithin (end + (9 + n)) limit now
 filled_more end n was now limit f low g not_full = ⊎_elim grown kept (order (length was) (end + 10 + n))

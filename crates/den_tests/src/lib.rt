@@ -5,6 +5,8 @@
 #[cfg(test)]
 mod disk;
 #[cfg(test)]
+mod gate;
+#[cfg(test)]
 mod lease;
 #[cfg(test)]
 mod server;
