@@ -2,12 +2,14 @@
 use Rattle.std.proofs.Common.{◌≡◌, inl, inr, ℕ, zero, suc, ◌+◌, ◌*◌, ◌^◌, ◌<◌, ◌≤◌, max, true, false, List, [], ◌∷◌, ◌++◌, length, take, get_or, Option, Some, IsSome, IsTrue, Result, Ok, Err, refl, sym, ap, ◌∙◌, subst, arith, length-append}
 use Rattle.std.specs.Option.{unwrap_or}
 use Rattle.std.specs.Result.{IsErrAnd}
+use Rattle.std.proofs.lemmas.Result.{IfErr-weaker}
 use Rattle.den_disk.specs.declared.disk.Disk.{Ghosts as DiskGhosts}
 use Rattle.den_disk.specs.declared.place.Family.{Family}
 use Rattle.den_disk.specs.declared.place.Place.{Place}
-use Rattle.den_disk.specs.Files.{Content, Kind}
+use Rattle.den_disk.specs.Files.{Content, Files, Kind}
 use Rattle.den_model.specs.Image.{slot_of}
 use Rattle.den_disk.specs.Crash.{Stays}
+use Rattle.den_disk.specs.Goes.{Rose}
 use Rattle.den_model.specs.Regions.{Region, open_region, open_regions, placed}
 use Rattle.den_model.specs.Spelling.{u64_word}
 use Rattle.den_model.proofs.Numbers.{length_u64_word}
@@ -22,17 +24,18 @@ use Rattle.den_gate.proofs.Alone.{Law}
 use Rattle.den_gate.proofs.Written.{regions-push}
 use Rattle.den_codec.specs.declared.error.Error.{Error}
 use Rattle.den_codec.specs.declared.error.Error.TheVariants.{DiskFull, OutOfMemory}
+use Rattle.den_codec.specs.declared.error.Error.TheVariants as error
 use Rattle.den_codec.specs.Full.{IsHeavy}
 use Rattle.den_journal.specs.declared.folded.Folded.{Ghosts}
 use Rattle.den_journal.specs.declared.journal.Journal.{Journal}
 use Rattle.den_journal.specs.Causes.{IsFullFor, IsRefusal, IsTooShort}
-use Rattle.den_journal.specs.Drafts.{Commits, IsDrafting, IsFullOf, IsSizeOf, Pushes}
+use Rattle.den_journal.specs.Drafts.{Commits, Drafts, IsDrafting, IsFullOf, IsSizeOf, Pushes}
 use Rattle.den_journal.specs.Lies.{gives_hold}
 use Rattle.den_journal.specs.Refused.{refusal}
 use Rattle.den_journal.specs.Shown.{Gives, held_in, rewrite_size}
 use Rattle.den_journal.specs.Writes.{Faulted, Moves, Tells}
 use Rattle.den_journal.proofs.Full.{full_of, short_in_other, sync_refused}
-use Rattle.den_journal.proofs.Moving.{goes_nowhere, moves_flipped, moves_kept, moves_nothing}
+use Rattle.den_journal.proofs.Moving.{first_of, goes_nowhere, moves_joined, moves_flipped, moves_kept, moves_nothing}
 
 -- one payload more
 pub pushed_size : (ps : List (List ℕ)) (p : List ℕ) → length (open_regions (ps ++ p ∷ [])) ≡ length (open_regions ps) + (9 + length p)
@@ -207,6 +210,69 @@ module _ {F R D : Type 0} (fold : Ghosts F R) (disk : DiskGhosts D) (was now : J
         };
         done = tt;
       }
+
+-- ---- for the callers
+
+-- calls on a draft one behind the other
+pub later_cause : (rose more : Type 0) (most same : ℕ) (e : Error) → (rose → more) → same ≡ most → IsRefusal rose same e → IsRefusal more most e
+later_cause rose more most same error.StorageIoError rises is h = rises h
+later_cause rose more most same (error.DiskFull needed limit) rises is h = (h.0, h.1 ∙ is)
+later_cause rose more most same error.OutOfMemory rises is h = h
+later_cause rose more most same error.LinkFault rises is h = h
+later_cause rose more most same (error.DataCorruption place offset) rises is h = h
+later_cause rose more most same error.FeatureNotEnabled rises is h = h
+later_cause rose more most same error.ProposeFailed rises is h = h
+later_cause rose more most same (error.UnorderedChunk index) rises is h = h
+later_cause rose more most same (error.Config place) rises is h = h
+later_cause rose more most same error.StateMachineError rises is h = h
+
+pub drafts_then : {F R D S T : Type 0} (fold : Ghosts F R) (disk : DiskGhosts D) (was between now : Journal F) (old mid new : D) (more : List fold.Value) (x : S) (result : Result T Error)
+    → fold.value between.held ≡ fold.value was.held → Drafts fold disk was between old mid (fold.value was.held ∷ []) (Ok x) → Drafts fold disk between now mid new (fold.value between.held ∷ more) result
+    → Drafts fold disk was now old new (fold.value was.held ∷ more) result
+drafts_then fold disk was between now old mid new more x result same one two =
+    let v = fold.value was.held in
+    let on : Tells disk old → Tells disk mid = λ tells. subst (λ (k : Kind). IsTrue k.tells) (sym one.goes_on.same) tells in
+    record {
+      goes_on = record {
+        same = two.goes_on.same ∙ one.goes_on.same;
+        counts = omega (arith, one.goes_on.counts, two.goes_on.counts);
+        told = λ tells.
+            let first = one.goes_on.told tells in
+            let then = two.goes_on.told (on tells) in
+            record {
+              later = omega (arith, first.later, then.later);
+              past = λ t files le i. first.past t files le (then.past t files (omega (arith, le, first.later)) i);
+              keeps = λ t files le i. then.keeps t files (omega (arith, le, first.later)) (first.keeps t files le i);
+            };
+      };
+      moves = λ tells. moves_joined one.goes_on two.goes_on tells (v ∷ []) (v ∷ more) (v ∷ more) (λ found h. first_of v more found h) (λ found h. h) (one.moves tells)
+          (subst (λ u. Moves disk fold.FAMILY (held_in fold.FAMILY (fold.from fold.empty)) (u ∷ more) mid new) same (two.moves (on tells)));
+      cause = IfErr-weaker result (IsRefusal (Faulted disk mid new) (disk.kind mid).limit) (IsRefusal (Faulted disk old new) (disk.kind old).limit)
+          (λ e h. later_cause (Faulted disk mid new) (Faulted disk old new) (disk.kind old).limit (disk.kind mid).limit e (later_rose (disk.faults old) (disk.faults mid) (disk.faults new) one.goes_on.counts)
+          (ap (λ (k : Kind). k.limit) one.goes_on.same) h) two.cause;
+      failed = two.failed;
+      same_value = IfErr-weaker result (λ e. fold.value now.held ≡ fold.value between.held) (λ e. fold.value now.held ≡ v) (λ e h. h ∙ same) two.same_value;
+    }
+  where
+    later_rose : (first second third : ℕ) → first ≤ second → Rose second third → Rose first third
+    later_rose first second third le rose = omega arith
+
+-- what is told of a full draft, among what a change may be told
+pub full_for : (told more : Type 0) (family : Family) (files : Files) (end size most : ℕ) (adds drafts : ℕ → Type 0) (e : Error) → (more → told) → end + size ≤ most → drafts size → IsFullOf told family files end size e
+    → IsFullFor more family files most adds drafts e
+full_for told more family files end size most adds drafts (error.DiskFull needed limit) tells small meant h = (
+  record { size = end + size; within = omega arith; room = omega (arith, h.0) },
+  λ t. let s = h.1 (tells t) in inr (record { size = s.size; meant = subst drafts (sym s.meant) meant; room = s.room; short = s.short }),
+)
+full_for told more family files end size most adds drafts error.StorageIoError tells small meant h = tt
+full_for told more family files end size most adds drafts error.OutOfMemory tells small meant h = tt
+full_for told more family files end size most adds drafts error.LinkFault tells small meant h = tt
+full_for told more family files end size most adds drafts (error.DataCorruption place offset) tells small meant h = tt
+full_for told more family files end size most adds drafts error.FeatureNotEnabled tells small meant h = tt
+full_for told more family files end size most adds drafts error.ProposeFailed tells small meant h = tt
+full_for told more family files end size most adds drafts (error.UnorderedChunk index) tells small meant h = tt
+full_for told more family files end size most adds drafts (error.Config place) tells small meant h = tt
+full_for told more family files end size most adds drafts error.StateMachineError tells small meant h = tt
 
 -- ---- a rewrite
 

@@ -16,7 +16,7 @@ use Rattle.den_journal.specs.Writes.{Tells, Moves, Becomes, Untouched, IsLost, I
 
 -- ---- a heavier weight
 
-more_heavy : (most weight more : ℕ) (e : Error) → weight ≤ more → IsHeavy most weight e → IsHeavy most more e
+pub more_heavy : (most weight more : ℕ) (e : Error) → weight ≤ more → IsHeavy most weight e → IsHeavy most more e
 more_heavy most weight more error.OutOfMemory le h = tt
 more_heavy most weight more error.StorageIoError le h = tt
 more_heavy most weight more (error.DiskFull needed limit) le h = omega arith
