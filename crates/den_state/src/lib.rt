@@ -24,8 +24,6 @@ mod cleanup;
 mod file_machine;
 mod machine;
 mod stored_map;
-#[cfg(test)]
-mod tests;
 
 pub use file_machine::{FileStateMachine, SnapshotMetadata};
 pub use machine::StateMachine;

@@ -11,4 +11,6 @@ mod lease;
 #[cfg(test)]
 mod server;
 #[cfg(test)]
+mod state;
+#[cfg(test)]
 mod store;
