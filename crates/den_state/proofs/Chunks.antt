@@ -32,3 +32,8 @@ at_none P o is = subst (λ (x : Option Error). IfSome x P) (sym is) tt
 pub both_ways : {A B P : Type 0} (r : Result A B) → OnOk r P → IfErr r (λ e. P) → P
 both_ways (Ok x) p q = p
 both_ways (Err e) p q = q
+
+-- what follows of two facts of one error
+pub at_both : {A E : Type 0} {P Q R : E → Type 0} (r : Result A E) → ((e : E) → P e → Q e → R e) → IfErr r P → IfErr r Q → IfErr r R
+at_both (Ok x) f p q = tt
+at_both (Err e) f p q = f e p q

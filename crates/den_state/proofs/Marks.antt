@@ -1,12 +1,11 @@
 -- What entries make of a map whatever its mark is, and what a mark and a cleanup make of it.
-use Rattle.std.proofs.Common.{◌≡◌, ℕ, ◌+◌, ◌<◌, ◌≤◌, Bool, true, false, List, [], ◌∷◌, length, Option, Some, None, refl, sym, ap, ◌∙◌, subst, if◌then◌else◌, nat_lt, nat_le, arith}
+use Rattle.std.proofs.Common.{◌≡◌, ℕ, ◌≤◌, Bool, true, false, List, [], ◌∷◌, length, Option, Some, None, refl, sym, ap, ◌∙◌, if◌then◌else◌, nat_lt, nat_le, arith}
 use Rattle.std.proofs.lemmas.Bool.{le-leb, lt-ltb, ltb-true}
 use Rattle.den_model.specs.declared.command.Command.{Command}
 use Rattle.den_model.specs.declared.command.Command.TheVariants as command
 use Rattle.den_model.specs.declared.journal.JournalRecord.{JournalRecord}
 use Rattle.den_model.specs.declared.journal.JournalRecord.TheVariants.{Cleanup, CasFailed, Delete, Insert, Noop}
 use Rattle.den_model.specs.declared.log_id.LogId.{LogId}
-use Rattle.den_model.specs.declared.log_id.ApplyResult.{ApplyResult}
 use Rattle.den_model.specs.declared.region.StateRegion.{StateRegion}
 use Rattle.den_model.specs.declared.region.StateRegion.TheVariants.{Mark, Records}
 use Rattle.den_model.specs.Apply.{succeeds, with_pair}

@@ -1,5 +1,5 @@
 -- How much a journal's region weighs beside the entries that it is of.
-use Rattle.std.proofs.Common.{◌≡◌, ℕ, ◌+◌, ◌*◌, ◌^◌, ◌<◌, ◌≤◌, true, false, List, [], ◌∷◌, ◌++◌, length, Option, Ok, refl, sym, ap, ◌∙◌, if◌then◌else◌, arith, length-append}
+use Rattle.std.proofs.Common.{◌≡◌, ℕ, ◌+◌, ◌*◌, ◌≤◌, true, false, List, [], ◌∷◌, length, Option, if◌then◌else◌, arith, length-append}
 use Rattle.std.specs.List.{flat_map}
 use Rattle.den_model.specs.declared.command.Command.{Command}
 use Rattle.den_model.specs.declared.command.Command.TheVariants as command
@@ -73,10 +73,10 @@ light_region s es =
 
 -- ---- by how much a region raises the weight
 
-pub light_chunk : (s : MapState) (es : List LogEntry) → 9 + length (state_region_word (Records (all_recorded s es))) ≤ store_rise (entries_size es)
+pub light_chunk : (s : MapState) (es : List LogEntry) → 9 + 2 * length (state_region_word (Records (all_recorded s es))) ≤ store_rise (entries_size es)
 light_chunk s es = let light = light_region s es in omega (arith, light)
 
-pub light_cleanup : (moment : ℕ) → 9 + length (state_region_word (Records (journal.Cleanup moment ∷ []))) ≤ store_rise 0
+pub light_cleanup : (moment : ℕ) → 9 + 2 * length (state_region_word (Records (journal.Cleanup moment ∷ []))) ≤ store_rise 0
 light_cleanup moment =
     let word : length (state_region_word (Records (journal.Cleanup moment ∷ []))) ≡ 9 + length (flat_map record_word (journal.Cleanup moment ∷ [])) = length_list (journal.Cleanup moment ∷ []) in
     let one : length (flat_map record_word (journal.Cleanup moment ∷ [])) ≡ length (record_word (journal.Cleanup moment)) + 0 = length-append (record_word (journal.Cleanup moment)) [] in
@@ -86,5 +86,5 @@ light_cleanup moment =
 length_mark : (index term : ℕ) → length (state_region_word (Mark index term)) ≡ 17
 length_mark index term = simp (length-append, length_u64_word) (omega arith)
 
-pub light_mark : (index term : ℕ) → 9 + length (state_region_word (Mark index term)) ≤ store_rise 0
+pub light_mark : (index term : ℕ) → 9 + 2 * length (state_region_word (Mark index term)) ≤ store_rise 0
 light_mark index term = omega (arith, length_mark index term)

@@ -1,5 +1,5 @@
 -- What the calls of a state machine change of the map that its files give.
-use Rattle.std.specs.Prelude.{ℕ, Bool, List, [], ◌∷◌, length}
+use Rattle.std.specs.Prelude.{◌≡◌, ℕ, Bool, List, [], ◌∷◌, length}
 use Rattle.den_model.specs.declared.journal.JournalRecord.TheVariants.{Cleanup}
 use Rattle.den_model.specs.declared.log_id.LogId.{LogId}
 use Rattle.den_model.specs.declared.region.StateRegion.TheVariants.{Mark, Records}
@@ -13,12 +13,12 @@ use Rattle.den_state.specs.Cleanup.{cleaned_where}
 
 -- entries, by one region of their records, which the map may want memory to take on
 abbrev pub chunk_change : MapState → List LogEntry → Change MapState
-chunk_change m chunk = record { to = map_applied_all m chunk; size = length (state_region_word (Records (all_recorded m chunk))); rise = store_rise (entries_size chunk); lost = Unit {0} }
+chunk_change m chunk = record { to = map_applied_all m chunk; adds = λ n. n ≡ length (state_region_word (Records (all_recorded m chunk))); drafts = λ n. ⊥; rise = store_rise (entries_size chunk); lost = Unit {0} }
 
 -- a region that moves the mark
 abbrev pub mark_change : MapState → LogId → Change MapState
-mark_change m mark = record { to = record m { mark = mark }; size = length (state_region_word (Mark mark.index mark.term)); rise = store_rise 0; lost = ⊥ }
+mark_change m mark = record { to = record m { mark = mark }; adds = λ n. n ≡ length (state_region_word (Mark mark.index mark.term)); drafts = λ n. ⊥; rise = store_rise 0; lost = ⊥ }
 
 -- a region of a cleanup's record
 abbrev pub cleanup_change : Bool → ℕ → MapState → Change MapState
-cleanup_change leased moment m = record { to = cleaned_where leased moment m; size = length (state_region_word (Records (Cleanup moment ∷ []))); rise = store_rise 0; lost = ⊥ }
+cleanup_change leased moment m = record { to = cleaned_where leased moment m; adds = λ n. n ≡ length (state_region_word (Records (Cleanup moment ∷ []))); drafts = λ n. ⊥; rise = store_rise 0; lost = ⊥ }

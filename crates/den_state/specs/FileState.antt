@@ -1,8 +1,9 @@
 -- A state machine over a journal.
-use Rattle.std.specs.Prelude.{◌<◌, ◌≤◌, ℕ}
+use Rattle.std.specs.Prelude.{◌<◌}
 use Rattle.den_disk.specs.declared.place.Family.TheVariants.{State as state_family}
 use Rattle.den_model.specs.Image.{ok, map_in}
 use Rattle.den_model.specs.MapState.{MapState, empty_map, map_from}
+use Rattle.den_map.specs.Sizes.{pairs_size}
 use Rattle.den_journal.specs.Lies.{Lies, gives_own, gives_hold, held_own}
 use Rattle.den_journal.specs.Shown.{Held, Shown, shown_of, seen_as}
 use Rattle.den_state.specs.declared.file_machine.FileStateMachine.{FileStateMachine}
@@ -19,7 +20,7 @@ abbrev pub state_map : FileStateMachine → MapState
 state_map s = record s.journal.held.map { mark = s.applied }
 
 abbrev pub state_shown : FileStateMachine → Shown MapState
-state_shown s = seen_as (λ (v : Stored). v.map) (shown_of state_family (stored_from nothing_stored) s.journal.failed s.journal.gate (stored_of s))
+state_shown s = seen_as (λ (v : Stored). v.map) (shown_of state_family (stored_from nothing_stored) (λ (v : Stored). pairs_size v.map.pairs) s.journal.failed s.journal.gate (stored_of s))
 
 abbrev pub state_settings : FileStateMachine → Settings
 state_settings s = record { leased = s.leased; running = s.running; metadata = s.metadata }

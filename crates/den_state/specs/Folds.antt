@@ -1,16 +1,17 @@
 -- The state's regions, as a fold.
-use Rattle.std.specs.Prelude.{Bool, true, false, IsTrue, IfOk, if◌then◌else◌, ◌≡◌, ℕ, ◌+◌, ◌≤◌, List, [], ◌∷◌, length, Option, Some, None, Result, Ok, Err, refl}
+use Rattle.std.specs.Prelude.{Bool, true, false, IsTrue, IfOk, if◌then◌else◌, ◌≡◌, ℕ, ◌+◌, ◌*◌, ◌≤◌, List, [], ◌∷◌, length, Option, Some, None, Result, Ok, Err, refl}
 use Rattle.std.proofs.Common.{ap, ◌∙◌, sym, arith}
 use Rattle.den_disk.specs.declared.place.Family.TheVariants as family
 use Rattle.den_disk.specs.Files.{Files}
 use Rattle.den_model.specs.declared.region.StateRegion.{StateRegion}
 use Rattle.den_model.specs.MapState.{MapState, empty_map, map_after, map_after_payload, map_from}
-use Rattle.den_model.specs.Reading.{state_region_in}
 use Rattle.den_model.specs.Regions.{Region, regions}
 use Rattle.den_model.specs.Image.{ok, slot_of, meaning_of, in_regions, map_in}
 use Rattle.den_model.specs.Spelling.{state_region_word}
 use Rattle.den_model.specs.Words.{FitsStateRegion}
 use Rattle.den_model.proofs.RoundTrips.{state_region_again}
+use Rattle.den_map.specs.Sizes.{pairs_size}
+use Rattle.den_map.proofs.Sizing.{region_sized}
 use Rattle.den_map.specs.Tail.{tail_after, tail_after_payload}
 use Rattle.den_journal.specs.Folding.{Folds}
 use Rattle.den_journal.specs.Shown.{held_in}
@@ -53,8 +54,12 @@ word_tail tail r fits = ap (λ (o : Option StateRegion). elim o [ None ↦ tail 
 pub stored_again : (s : Stored) (r : StateRegion) → IsLawful s r → FitsStateRegion r → stored_after s (state_region_word r) ≡ Some (stored_by s r)
 stored_again s r lawful fits = after_lawful s (state_region_word r) (map_by s.map (map_after s.map r)) (tail_after s.tail r) (word_map s.map r fits ∙ lawful) (sym (word_tail s.tail r fits))
 
-pub stored_rises : (r : StateRegion) → 9 + length (state_region_word r) ≤ 9 + length (state_region_word r)
+pub stored_rises : (r : StateRegion) → 9 + 2 * length (state_region_word r) ≤ 9 + 2 * length (state_region_word r)
 stored_rises r = omega arith
+
+-- a region makes no pairs greater by more than its word
+pub stored_sized : (s : Stored) (r : StateRegion) → IsLawful s r → pairs_size (stored_by s r).map.pairs ≤ pairs_size s.map.pairs + length (state_region_word r)
+stored_sized s r lawful = region_sized s.map (map_by s.map (map_after s.map r)) r lawful
 
 -- ---- the map alone
 

@@ -10,7 +10,6 @@ use Rattle.den_disk.specs.Families.{SparesOwn}
 use Rattle.den_codec.specs.declared.error.Error.{Error}
 use Rattle.den_codec.specs.declared.error.Error.TheVariants.{OutOfMemory}
 use Rattle.den_codec.specs.Full.{IsHeavy}
-use Rattle.den_model.specs.Image.{slot_of}
 use Rattle.den_model.specs.MapState.{MapState}
 use Rattle.den_journal.specs.Causes.{IsFullFor, IsRefusal}
 use Rattle.den_journal.specs.Lies.{Lies}
@@ -57,6 +56,6 @@ module _ {D : Type 0} (disk : Ghosts D) where
     pub moves : Tells disk old → Moves disk family holds (was.value ∷ change.to ∷ []) old new
     pub held : OnOk result (Tells disk old → holds.told → (files : Files) → disk.images new (disk.moment new) files → holds.of files ≡ Some change.to)
     pub cause : IfErr result (IsRefusal (Faulted disk old new) (disk.kind old).limit)
-    pub full : IfErr result (IsFullFor (Tells disk old) ((disk.content old).reading (slot_of family (disk.content old).reading)) was.weight change.size)
+    pub full : IfErr result (IsFullFor (Tells disk old × holds.told) family (disk.content new).reading (was.weight + change.rise) change.adds change.drafts)
     pub heavy : IfErr result (IsHeavy (disk.kind old).limit (was.weight + change.rise))
     pub untouched : IfErr result (λ e. e ≡ OutOfMemory → new ≡ old)

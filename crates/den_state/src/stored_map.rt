@@ -1,5 +1,5 @@
 // The map with its stored mark, as the regions of its journal give it.
-ghost use Rattle.std.specs.Prelude.{◌≡◌, ◌+◌};
+ghost use Rattle.std.specs.Prelude.{◌≡◌, ◌+◌, ◌*◌};
 ghost use Rattle.den_state.specs.Stored.{cleanup_of};
 
 use den_codec::{JournalRecord, LogId, Positive, StateRegion, Word};
@@ -27,11 +27,12 @@ fn cleanup_of(records: &[JournalRecord]) -> Option<Positive>
 }
 
 impl Folded for StoredMap {
-    ghost use Rattle.std.specs.Prelude.{ℕ, length};
+    ghost use Rattle.std.specs.Prelude.{ℕ, length, refl};
     ghost use Rattle.den_disk.specs.declared.place.Family.TheVariants.{State as state_family};
     ghost use Rattle.den_model.specs.Spelling.{state_region_word};
+    ghost use Rattle.den_map.specs.Sizes.{pairs_size};
     ghost use Rattle.den_state.specs.Stored.{Stored, nothing_stored, stored_after, stored_from, stored_by, IsLawful, MayWant};
-    ghost use Rattle.den_state.specs.Folds.{stored_fold, stored_again, stored_rises};
+    ghost use Rattle.den_state.specs.Folds.{stored_fold, stored_again, stored_rises, stored_sized};
 
     type Region = StateRegion;
 
@@ -55,17 +56,25 @@ impl Folded for StoredMap {
 
     ghost roomy = { λ s r. Unit {0} };
 
-    ghost rise = { λ r. 9 + length (state_region_word r) };
+    ghost rise = { λ r. 9 + 2 * length (state_region_word r) };
 
     ghost lost = { MayWant };
 
-    ghost size = { λ s. 0 };
+    ghost size = { λ s. pairs_size s.map.pairs };
+
+    ghost renewed = { λ s. record s { tail = 0 } };
 
     ghost folds = { stored_fold };
 
     ghost again = { stored_again };
 
     ghost rises = { stored_rises };
+
+    ghost none = { refl };
+
+    ghost sized = { λ s r lawful fits. stored_sized s r lawful };
+
+    ghost anew = { λ s. refl };
 
     fn empty(alloc: Global) -> StoredMap {
         StoredMap {
@@ -105,5 +114,9 @@ impl Folded for StoredMap {
                 self.map.follow(self.alloc, &region)
             }
         }
+    }
+    // What follows the last Begin region is counted anew.
+    fn renew(&mut self) {
+        self.tail = 0;
     }
 }

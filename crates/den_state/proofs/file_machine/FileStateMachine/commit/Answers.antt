@@ -1,7 +1,6 @@
-use Rattle.std.proofs.Common.{◌≡◌, ◌≤◌, ◌+◌, ℕ, List, [], ◌∷◌, ◌++◌, length, Some, None, Ok, Err, refl, sym, ap, subst, ◌∙◌, arith}
+use Rattle.std.proofs.Common.{◌≡◌, ◌≤◌, ◌+◌, ◌*◌, List, [], ◌∷◌, ◌++◌, length, Some, None, Ok, Err, refl, sym, ap, subst, ◌∙◌, arith}
 use Rattle.den_disk.specs.declared.place.Family.TheVariants.{State}
 use Rattle.den_model.specs.declared.journal.JournalRecord.{JournalRecord}
-use Rattle.den_model.specs.declared.log_id.LogId.{LogId}
 use Rattle.den_model.specs.declared.region.StateRegion.TheVariants.{Records}
 use Rattle.den_model.specs.Entries.{LogEntry}
 use Rattle.den_model.specs.MapState.{MapState, map_after, map_after_records, map_applied_all, results_of}
@@ -14,7 +13,7 @@ use Rattle.den_map.specs.Journal.{all_recorded}
 use Rattle.den_map.specs.Order.{out_of_order}
 use Rattle.den_journal.specs.Shown.{held_in}
 use Rattle.den_journal.proofs.Moving.{writes_refused}
-use Rattle.den_journal.proofs.Seen.{writes_part, refused_ready}
+use Rattle.den_journal.proofs.Seen.{writes_part}
 use Rattle.den_state.specs.declared.stored_map.StoredMap.{StoredMap}
 use Rattle.den_state.specs.FileState.{map_held, state_lies, stored_of}
 use Rattle.den_state.specs.Folds.{held_map}
@@ -29,7 +28,7 @@ after_records m over chunk rs js same is lawful =
     records_after m rs ∙ ap (map_after_records m) is ∙ subst (λ (x : MapState). map_after_records x js ≡ Some (map_applied_all x chunk)) same lawful
 
 light_records : (m over : MapState) (chunk : List LogEntry) (rs js : List JournalRecord) → over ≡ m → rs ≡ js → js ≡ all_recorded over chunk
-    → (length (state_region_word (Records rs)) ≡ length (state_region_word (Records (all_recorded m chunk)))) × (9 + length (state_region_word (Records rs)) ≤ store_rise (entries_size chunk))
+    → (length (state_region_word (Records rs)) ≡ length (state_region_word (Records (all_recorded m chunk)))) × (9 + 2 * length (state_region_word (Records rs)) ≤ store_rise (entries_size chunk))
 light_records m over chunk rs js same is records =
     let all : rs ≡ all_recorded m chunk = is ∙ records ∙ ap (λ (x : MapState). all_recorded x chunk) same in
     let size : length (state_region_word (Records rs)) ≡ length (state_region_word (Records (all_recorded m chunk))) = ap (λ (x : List JournalRecord). length (state_region_word (Records x))) all in
@@ -64,7 +63,7 @@ returns-in-Ok-clause-writes g c =
     let over = ap (λ (h : StoredMap). h.map) c.held.ensures in
     let after = after_records m c.held.result.now.map c.args.chunk.now c.of-records.result _ over c.of-records.ensures c.in_ok-journaled.ensures.lawful in
     let light = light_records m c.held.result.now.map c.args.chunk.now c.of-records.result _ over c.of-records.ensures c.in_ok-journaled.ensures.records in
-    writes_part g.D.Disk State (held_in State (stored_from nothing_stored)) map_held (λ (v : Stored). v.map) _ _ _ _ _ _ (λ told. told) held_map (ap (map_by m) after) light.0 light.1 (λ _. tt) (Ok _) (Ok _) tt c.in-Ok.ensures.writes
+    writes_part g.D.Disk State (held_in State (stored_from nothing_stored)) map_held (λ (v : Stored). v.map) _ _ _ _ _ _ (λ told. told) held_map (ap (map_by m) after) (λ n is. is ∙ light.0) (λ n is. is) light.1 (λ _. tt) (Ok _) (Ok _) tt c.in-Ok.ensures.writes
 
 pub returns-in-Err-clause-writes : goal.returns-in-Err-clause-writes
 returns-in-Err-clause-writes g c =
@@ -73,7 +72,7 @@ returns-in-Err-clause-writes g c =
     let over = ap (λ (h : StoredMap). h.map) c.held.ensures in
     let after = after_records m c.held.result.now.map c.args.chunk.now c.of-records.result _ over c.of-records.ensures c.in_ok-journaled.ensures.lawful in
     let light = light_records m c.held.result.now.map c.args.chunk.now c.of-records.result _ over c.of-records.ensures c.in_ok-journaled.ensures.records in
-    writes_part g.D.Disk State (held_in State (stored_from nothing_stored)) map_held (λ (v : Stored). v.map) _ _ _ _ _ _ (λ told. told) held_map (ap (map_by m) after) light.0 light.1 (λ _. tt) (Err _) (Err _) refl c.in-Err.ensures.writes
+    writes_part g.D.Disk State (held_in State (stored_from nothing_stored)) map_held (λ (v : Stored). v.map) _ _ _ _ _ _ (λ told. told) held_map (ap (map_by m) after) (λ n is. is ∙ light.0) (λ n is. is) light.1 (λ _. tt) (Err _) (Err _) refl c.in-Err.ensures.writes
 
 pub returns-in-Ok-clause-applied : goal.returns-in-Ok-clause-applied
 returns-in-Ok-clause-applied g c =

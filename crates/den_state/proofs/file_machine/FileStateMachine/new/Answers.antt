@@ -1,7 +1,6 @@
 use Rattle.den_disk.specs.declared.place.Family.TheVariants.{State}
 use Rattle.den_model.specs.Image.{in_regions, map_in}
 use Rattle.den_journal.proofs.Seen.{unread_part}
-use Rattle.den_state.specs.FileState.{stored_of}
 use Rattle.den_state.specs.Folds.{given_map, given_place}
 use Rattle.den_state.specs.Stored.{nothing_stored, stored_from}
 use Rattle.den_state.proofs.file_machine.FileStateMachine.new.Goals as goal

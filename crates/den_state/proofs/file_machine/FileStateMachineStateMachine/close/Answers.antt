@@ -1,4 +1,4 @@
-use Rattle.std.proofs.Common.{◌≡◌, IsTrue, Some, ⊎_elim, ap, sym, subst, ◌∙◌}
+use Rattle.std.proofs.Common.{IsTrue, Some, ⊎_elim, ap, sym, subst, ◌∙◌}
 use Rattle.std.proofs.lemmas.Result.{on_ok_weaker, IfErr-weaker}
 use Rattle.den_disk.specs.Files.{Kind}
 use Rattle.den_model.specs.MapState.{MapState}

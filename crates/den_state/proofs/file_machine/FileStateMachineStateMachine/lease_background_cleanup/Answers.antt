@@ -1,7 +1,7 @@
-use Rattle.std.proofs.Common.{◌≡◌, ◌≤◌, ◌+◌, ℕ, [], ◌∷◌, ◌++◌, max, length, false, Some, None, Ok, Err, refl, ap, sym, subst, ◌∙◌, arith}
+use Rattle.std.proofs.Common.{◌≡◌, ◌≤◌, ◌+◌, ◌*◌, ℕ, [], ◌∷◌, ◌++◌, max, length, false, Some, None, Ok, Err, refl, ap, sym, subst, ◌∙◌, arith}
 use Rattle.std.specs.Prelude.{◌&&◌}
 use Rattle.std.specs.List.Sorted.{IsStrictlySortedBy}
-use Rattle.std.proofs.lemmas.Result.{on_ok_weaker, IfErr-weaker}
+use Rattle.std.proofs.lemmas.Result.{on_ok_weaker}
 use Rattle.den_disk.specs.declared.place.Family.TheVariants.{State}
 use Rattle.den_model.specs.declared.journal.JournalRecord.TheVariants.{Cleanup}
 use Rattle.den_model.specs.declared.region.StateRegion.{StateRegion}
@@ -18,11 +18,10 @@ use Rattle.den_map.specs.Cleanup.{cleaned_map}
 use Rattle.den_journal.specs.Shown.{held_in}
 use Rattle.den_journal.proofs.Moving.{writes_nothing, writes_refused}
 use Rattle.den_journal.proofs.Seen.{writes_part, refused_same}
-use Rattle.den_state.specs.Cleanup.{cleaned_where}
 use Rattle.den_state.specs.FileState.{map_held, state_lies, state_map, stored_of}
 use Rattle.den_state.specs.Folds.{held_map}
-use Rattle.den_state.specs.Stored.{Stored, IsLawful, MayWant, map_by, nothing_stored, stored_from}
-use Rattle.den_state.proofs.Chunks.{both_ways}
+use Rattle.den_state.specs.Stored.{Stored, MayWant, map_by, nothing_stored, stored_from}
+use Rattle.den_state.proofs.Chunks.{at_both, both_ways}
 use Rattle.den_state.proofs.Cleaning.{nothing_cleaned, nothing_removed, due_cleaned}
 use Rattle.den_state.proofs.Marks.{lawful_by, cleanup_after}
 use Rattle.den_state.proofs.Weighing.{light_cleanup}
@@ -36,7 +35,7 @@ wants_none : (at : ℕ) (r : StateRegion) → r ≡ Records (Cleanup at ∷ []) 
 wants_none at r is may = let never : ◌≡◌ {A = _} (Some at) None = subst MayWant is may in absurd (cc never)
 
 region_size : (at moment : ℕ) (r : StateRegion) → r ≡ Records (Cleanup at ∷ []) → at ≡ moment
-    → (length (state_region_word r) ≡ length (state_region_word (Records (Cleanup moment ∷ [])))) × (9 + length (state_region_word r) ≤ store_rise 0)
+    → (length (state_region_word r) ≡ length (state_region_word (Records (Cleanup moment ∷ [])))) × (9 + 2 * length (state_region_word r) ≤ store_rise 0)
 region_size at moment r is same =
     let size : length (state_region_word r) ≡ length (state_region_word (Records (Cleanup moment ∷ []))) = ap (λ (x : StateRegion). length (state_region_word x)) (is ∙ ap (λ (n : ℕ). Records (Cleanup n ∷ [])) same) in
     (size, omega (arith, light_cleanup moment, size))
@@ -95,7 +94,7 @@ invariant_of-self g c =
     record {
       below = both_ways c.change.result
           (on_ok_weaker c.change.result (λ b. let value : n ≡ cleaned_map at m = ap (λ (v : Stored). v.map) b.value ∙ ap (map_by m) after in omega (arith, s.below, ap (λ (x : MapState). x.mark.index) value)) w.done)
-          (IfErr-weaker c.change.result _ _ (λ e x. let same : n ≡ m = ap (λ (v : Stored). v.map) (refused_same g.D.Disk _ _ _ _ State _ _ e (wants_none at r c.in_ok-due.ensures.region) x) in omega (arith, s.below, ap (λ (y : MapState). y.mark.index) same)) w.refused);
+          (at_both c.change.result (λ e x stays. let same : n ≡ m = ap (λ (v : Stored). v.map) (refused_same g.D.Disk _ _ _ _ State _ _ e (wants_none at r c.in_ok-due.ensures.region) stays x) in omega (arith, s.below, ap (λ (y : MapState). y.mark.index) same)) w.refused c.change.ensures.same);
     }
 
 pub returns-in-Ok-clause-writes : goal.returns-in-Ok-clause-writes
@@ -108,7 +107,7 @@ returns-in-Ok-clause-writes g c =
     let after = region_gives m at r c.in_ok-due.ensures.region in
     let cleaned = due_cleaned s.leased (has_due c.get.result m.expiries) at (max c.args.now 1) m (sym c.is_due.ensures ∙ c.if-not-is_due.false) same in
     let size = region_size at (max c.args.now 1) r c.in_ok-due.ensures.region same in
-    writes_part g.D.Disk State (held_in State (stored_from nothing_stored)) map_held (λ (v : Stored). v.map) _ _ _ _ _ _ (λ told. told) held_map (ap (map_by m) after ∙ cleaned) size.0 size.1 (wants_none at r c.in_ok-due.ensures.region) (Ok _) (Ok _) tt c.in-Ok.ensures.writes
+    writes_part g.D.Disk State (held_in State (stored_from nothing_stored)) map_held (λ (v : Stored). v.map) _ _ _ _ _ _ (λ told. told) held_map (ap (map_by m) after ∙ cleaned) (λ n is. is ∙ size.0) (λ n is. is) size.1 (wants_none at r c.in_ok-due.ensures.region) (Ok _) (Ok _) tt c.in-Ok.ensures.writes
 
 pub returns-in-Ok-clause-cleaned : goal.returns-in-Ok-clause-cleaned
 returns-in-Ok-clause-cleaned g c =
@@ -132,13 +131,13 @@ returns-in-Err-clause-writes g c =
     let after = region_gives m at r c.in_ok-due.ensures.region in
     let cleaned = due_cleaned s.leased (has_due c.get.result m.expiries) at (max c.args.now 1) m (sym c.is_due.ensures ∙ c.if-not-is_due.false) same in
     let size = region_size at (max c.args.now 1) r c.in_ok-due.ensures.region same in
-    writes_part g.D.Disk State (held_in State (stored_from nothing_stored)) map_held (λ (v : Stored). v.map) _ _ _ _ _ _ (λ told. told) held_map (ap (map_by m) after ∙ cleaned) size.0 size.1 (wants_none at r c.in_ok-due.ensures.region) (Err _) (Err _) refl c.in-Err.ensures.writes
+    writes_part g.D.Disk State (held_in State (stored_from nothing_stored)) map_held (λ (v : Stored). v.map) _ _ _ _ _ _ (λ told. told) held_map (ap (map_by m) after ∙ cleaned) (λ n is. is ∙ size.0) (λ n is. is) size.1 (wants_none at r c.in_ok-due.ensures.region) (Err _) (Err _) refl c.in-Err.ensures.writes
 
 pub returns-in-Err-clause-same : goal.returns-in-Err-clause-same
 returns-in-Err-clause-same g c =
     let s = c.args.self.now in
     let r = c.in_ok-due.due.region in
-    let same : c.change.new.self.held.map ≡ s.journal.held.map = ap (λ (v : Stored). v.map) (refused_same g.D.Disk _ _ _ _ State _ _ c.in-Err.error (wants_none c.of-moment.result r c.in_ok-due.ensures.region) c.in-Err.ensures.writes.refused) in
+    let same : c.change.new.self.held.map ≡ s.journal.held.map = ap (λ (v : Stored). v.map) (refused_same g.D.Disk _ _ _ _ State _ _ c.in-Err.error (wants_none c.of-moment.result r c.in_ok-due.ensures.region) c.in-Err.ensures.same c.in-Err.ensures.writes.refused) in
     λ i. record (same i) { mark = s.applied }
 
 pub returns-in-Ok-clause-region : goal.returns-in-Ok-clause-region

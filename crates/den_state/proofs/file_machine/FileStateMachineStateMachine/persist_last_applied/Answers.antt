@@ -1,11 +1,11 @@
-use Rattle.std.proofs.Common.{◌≡◌, ◌≤◌, ℕ, Ok, Err, refl, sym, ap, ◌∙◌, arith}
+use Rattle.std.proofs.Common.{◌≡◌, Ok, Err, refl, sym, ap, ◌∙◌, arith}
 use Rattle.den_disk.specs.declared.place.Family.TheVariants.{State}
 use Rattle.den_disk.specs.declared.place.Place.{Place}
 use Rattle.den_gate.specs.Slot.{payloads_of}
 use Rattle.den_model.specs.declared.region.StateRegion.TheVariants.{Mark}
 use Rattle.den_model.specs.MapState.{MapState}
 use Rattle.den_journal.specs.Shown.{held_in}
-use Rattle.den_journal.proofs.Seen.{writes_part, refused_same}
+use Rattle.den_journal.proofs.Seen.{writes_part}
 use Rattle.den_state.specs.FileState.{map_held, stored_of}
 use Rattle.den_state.specs.Folds.{held_map}
 use Rattle.den_state.specs.Stored.{Stored, map_by, nothing_stored, stored_from}
@@ -28,7 +28,7 @@ returns-in-Ok-clause-writes g c =
     let p = c.args.last_applied in
     let m = s.journal.held.map in
     let after = mark_after m p.index p.term (omega (arith, s.below, c.requires.above)) in
-    writes_part g.D.Disk State (held_in State (stored_from nothing_stored)) map_held (λ (v : Stored). v.map) _ _ _ _ _ _ (λ told. told) held_map (ap (map_by m) after) refl (light_mark p.index p.term) (λ h. h) (Ok _) (Ok _) tt c.in-Ok.ensures.writes
+    writes_part g.D.Disk State (held_in State (stored_from nothing_stored)) map_held (λ (v : Stored). v.map) _ _ _ _ _ _ (λ told. told) held_map (ap (map_by m) after) (λ n is. is) (λ n is. is) (light_mark p.index p.term) (λ h. h) (Ok _) (Ok _) tt c.in-Ok.ensures.writes
 
 pub returns-in-Err-clause-writes : goal.returns-in-Err-clause-writes
 returns-in-Err-clause-writes g c =
@@ -36,7 +36,7 @@ returns-in-Err-clause-writes g c =
     let p = c.args.last_applied in
     let m = s.journal.held.map in
     let after = mark_after m p.index p.term (omega (arith, s.below, c.requires.above)) in
-    writes_part g.D.Disk State (held_in State (stored_from nothing_stored)) map_held (λ (v : Stored). v.map) _ _ _ _ _ _ (λ told. told) held_map (ap (map_by m) after) refl (light_mark p.index p.term) (λ h. h) (Err _) (Err _) refl c.in-Err.ensures.writes
+    writes_part g.D.Disk State (held_in State (stored_from nothing_stored)) map_held (λ (v : Stored). v.map) _ _ _ _ _ _ (λ told. told) held_map (ap (map_by m) after) (λ n is. is) (λ n is. is) (light_mark p.index p.term) (λ h. h) (Err _) (Err _) refl c.in-Err.ensures.writes
 
 pub invariant_of-self : goal.invariant_of-self
 invariant_of-self g c =

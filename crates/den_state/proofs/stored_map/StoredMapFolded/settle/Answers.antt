@@ -1,7 +1,7 @@
 use Rattle.std.proofs.Common.{◌≡◌, Some, sym, ap, subst, ◌∙◌}
 use Rattle.den_model.specs.declared.region.StateRegion.{StateRegion}
-use Rattle.den_model.specs.MapState.{MapState, map_after}
-use Rattle.den_state.specs.Stored.{Stored, cleanup_of, map_by}
+use Rattle.den_model.specs.MapState.{map_after}
+use Rattle.den_state.specs.Stored.{cleanup_of, map_by}
 use Rattle.den_state.proofs.Marks.{cleaned_by, mark_by}
 use Rattle.den_state.proofs.stored_map.StoredMapFolded.settle.Goals as goal
 
