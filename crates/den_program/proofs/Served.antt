@@ -10,6 +10,7 @@ is_standard_run : (node : RaftNodeConfig) → IsStandard node → run_config nod
 is_standard_run node is = λ i. record {
   running = running_at_entry (record { role = pos 2; hint = None; lease = false; interval = is.interval i; maximum = is.watchers i; buffer = is.buffer i }) (is.nodes i) (is.node_id i);
   frame_limit = is.frame i;
+  max_log_entries = is.entries i;
 }
 
 -- what is said of a run under it

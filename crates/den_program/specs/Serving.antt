@@ -18,7 +18,7 @@ abbrev pub standard_setting : Setting
 standard_setting = record { role = pos 2; hint = None; lease = false; interval = 1000; maximum = 1000; buffer = 64 }
 
 abbrev pub standard_run : RunConfig
-standard_run = record { running = running_at_entry standard_setting standard_nodes 1; frame_limit = 16777216 }
+standard_run = record { running = running_at_entry standard_setting standard_nodes 1; frame_limit = 16777216; max_log_entries = 1000 }
 
 abbrev pub is_status : ℕ → Bool
 is_status n = n == 0 || n == 1 || n == 5 || n == 6 || n == 7 || n == 8 || n == 9 || n == 10

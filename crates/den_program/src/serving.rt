@@ -5,7 +5,7 @@ ghost use Rattle.den_codec.specs.declared.error.Error.TheVariants.{OutOfMemory};
 ghost use Rattle.den_codec.specs.Standard.{IsStandard};
 ghost use Rattle.den_server.specs.Causes.{IsTurnedAway};
 ghost use Rattle.den_server.specs.Opening.{refusal_in};
-ghost use Rattle.den_server.specs.Promises.{Served, SendsPrefix, SurvivesCrash, SurvivesPending, EndsEarly, TurnsAway, Completes, GoesOn};
+ghost use Rattle.den_server.specs.Promises.{Served, KeepsLogShort, SendsPrefix, SurvivesCrash, SurvivesPending, EndsEarly, TurnsAway, Completes, GoesOn};
 ghost use Rattle.den_program.specs.Serving.{standard_run, EndsWith, IsRefusedStatus, IsLine, IsLineFront};
 ghost use Rattle.den_program.specs.Status.{status_of_error};
 ghost use Rattle.den_program.specs.Words.{folder_in};
@@ -38,6 +38,7 @@ fn serve_words<D: Disk, L: Link, C: Clock>(
     clock: &mut C,
 ) -> Answer
     ensures served { result ≡ Some (Ok tt) → Served D.Disk L.Link C.Clock standard_run disk.old disk.new link.old link.new clock.old clock.new }
+    ensures short { result ≡ Some (Ok tt) → KeepsLogShort D.Disk L.Link C.Clock standard_run disk.old disk.new link.old link.new clock.old clock.new }
     ensures prefix { SendsPrefix D.Disk L.Link C.Clock standard_run disk.old disk.new link.old link.new clock.old clock.new }
     ensures any_moment { SurvivesCrash D.Disk L.Link C.Clock standard_run disk.old disk.new link.old link.new clock.old clock.new }
     ensures opening { SurvivesPending D.Disk L.Link C.Clock standard_run disk.old disk.new link.old link.new clock.old clock.new (result ≡ Some (Ok tt)) }
@@ -73,6 +74,9 @@ pub fn serve_main<D: Disk, L: Link, C: Clock, S: Source, E: Sink>(
     // Status 0: the input was read to its end, one reading was taken at opening and one for each frame, exactly the plan's
     // output was sent, and each image of the disk stands for the plan's end, with the plan's entries in the log.
     ensures served { result ≡ 0 → Served D.Disk L.Link C.Clock standard_run disk.old disk.new link.old link.new clock.old clock.new }
+
+    // The log that the files give then holds no more entries than the configuration allows.
+    ensures short { result ≡ 0 → KeepsLogShort D.Disk L.Link C.Clock standard_run disk.old disk.new link.old link.new clock.old clock.new }
 
     // At every exit what was sent is a front of the plan's output.
     ensures prefix { SendsPrefix D.Disk L.Link C.Clock standard_run disk.old disk.new link.old link.new clock.old clock.new }

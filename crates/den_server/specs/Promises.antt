@@ -20,17 +20,20 @@ use Rattle.den_model.specs.Plan.{output, plan_over}
 use Rattle.den_model.specs.Sizes.{files_size}
 use Rattle.den_model.specs.Step.{Step}
 use Rattle.den_journal.specs.Writes.{Faulted, Tells}
+use Rattle.den_core.specs.Making.{GivesShortLog}
 use Rattle.den_core.specs.Spared.{SparesFamily}
 use Rattle.den_server.specs.Causes.{IsMuch, IsRunRefusal}
 use Rattle.den_server.specs.Opening.{IsUnwritten, SurvivesOpening, refusal_in}
 
--- What a configuration makes of a run: the run's part of what it begins with, and the longest body of a frame.
+-- What a configuration makes of a run: the run's part of what it begins with, the longest body of a frame, and how many
+-- entries the log may hold behind a step.
 pub record RunConfig : Type 0 where
   pub running : Running
   pub frame_limit : ℕ
+  pub max_log_entries : ℕ
 
 abbrev pub run_config : RaftNodeConfig → RunConfig
-run_config c = record { running = running_of c; frame_limit = c.network.max_frame_size }
+run_config c = record { running = running_of c; frame_limit = c.network.max_frame_size; max_log_entries = c.raft.max_log_entries }
 
 -- what a run begins with, over files that stand for a durable part
 abbrev pub start : RunConfig → Durable → Kv
@@ -64,6 +67,10 @@ module _ {D L C : Type 0} (disk : Disks D) (link : Links L) (clock : Clocks C) w
     Served = (kept : Durable) (log : Log) → Told → Reads kept → log_in (disk.content old).reading ≡ Ok log
         → IsServed durable_in (λ files. ok (log_in files)) (disk.images new) (disk.moment new) (link.left to) (length readings) (length (frames config.frame_limit (link.left from)))
         sent (start config kept) log (planned kept)
+
+    -- each image of the disk gives a log of no more entries than the configuration allows
+    abbrev pub KeepsLogShort : Type 0
+    KeepsLogShort = Tells disk old → GivesShortLog (λ files. ok (log_in files)) (disk.images new) (disk.moment new) config.max_log_entries
 
     -- what was sent is a front of the plan's output
     abbrev pub SendsPrefix : Type 0

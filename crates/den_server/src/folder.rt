@@ -117,6 +117,7 @@ pub fn open_folder<D: Disk>(
         → (⟦<Engine<FileLogStore, FileMetaStore, FileStateMachine> as Stepper<D>>⟧.seen engine).kv ≡ entered config.now kept) }
     ensures log { IfOk result (λ engine. IsTrue (D.kind disk.old).tells
         → log_in (D.content disk.old).reading ≡ Ok (⟦<Engine<FileLogStore, FileMetaStore, FileStateMachine> as Stepper<D>>⟧.seen engine).log) }
+    ensures most { IfOk result (λ engine. (⟦<Engine<FileLogStore, FileMetaStore, FileStateMachine> as Stepper<D>>⟧.seen engine).most ≡ config.now.raft.max_log_entries) }
     ensures term { IfOk result (λ engine. (⟦<Engine<FileLogStore, FileMetaStore, FileStateMachine> as Stepper<D>>⟧.seen engine).kv.durable.term < 2 ^ 64 - 1) }
     ensures index { IfOk result (λ engine. (⟦<Engine<FileLogStore, FileMetaStore, FileStateMachine> as Stepper<D>>⟧.seen engine).kv.durable.last_index < 2 ^ 64 - 1) }
     ensures weight { IfOk result (λ engine. IsTrue (D.kind disk.old).tells
@@ -145,5 +146,6 @@ pub fn open_folder<D: Disk>(
         stores.meta,
         stores.state,
         prepared.running,
+        config.raft.max_log_entries,
     )
 }

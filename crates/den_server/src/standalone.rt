@@ -2,7 +2,7 @@
 ghost use Rattle.std.specs.Prelude.{◌≡◌, Ok, Err, IsOk, OnOk, IfErr};
 ghost use Rattle.den_codec.specs.declared.error.Error.TheVariants.{OutOfMemory};
 ghost use Rattle.den_server.specs.Causes.{IsTurnedAway};
-ghost use Rattle.den_server.specs.Promises.{Served, SendsPrefix, SurvivesCrash, SurvivesPending, EndsEarly, TurnsAway, Completes, GoesOn, run_config};
+ghost use Rattle.den_server.specs.Promises.{Served, KeepsLogShort, SendsPrefix, SurvivesCrash, SurvivesPending, EndsEarly, TurnsAway, Completes, GoesOn, run_config};
 
 use crate::folder::open_folder;
 use den_codec::{Error, SoloConfig};
@@ -29,6 +29,9 @@ impl StandaloneEngine {
         // At Ok the input was read to its end, one reading was taken at opening and one for each frame, exactly the
         // plan's output was sent, and each image of the disk stands for the plan's end, with the plan's entries in the log.
         ensures served { OnOk result (Served D.Disk L.Link C.Clock (run_config config.now.node) disk.old disk.new link.old link.new clock.old clock.new) }
+
+        // At Ok the log that the files give holds no more entries than the configuration allows.
+        ensures short { OnOk result (KeepsLogShort D.Disk L.Link C.Clock (run_config config.now.node) disk.old disk.new link.old link.new clock.old clock.new) }
 
         // At every exit what was sent is a front of the plan's output.
         ensures prefix { SendsPrefix D.Disk L.Link C.Clock (run_config config.now.node) disk.old disk.new link.old link.new clock.old clock.new }

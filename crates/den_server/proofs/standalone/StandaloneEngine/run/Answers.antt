@@ -11,6 +11,7 @@ use Rattle.den_model.specs.Sizes.{files_size}
 use Rattle.den_codec.specs.declared.config.RaftNodeConfig.{RaftNodeConfig}
 use Rattle.den_core.specs.Full.{IsFullBy}
 use Rattle.den_codec.specs.Standard.{entered}
+use Rattle.den_core.specs.Making.{GivesShortLog}
 use Rattle.den_core.specs.Parts.{kv_of}
 use Rattle.den_core.specs.Refusals.{IsServeRefusal}
 use Rattle.den_core.specs.Weights.{run_weight}
@@ -149,3 +150,11 @@ returns-clause-goes_on g c = record {
   snapshot = spares_twice g.D.Disk.kind g.D.Disk.content g.D.Disk.moment g.D.Disk.images g.D.Disk.faults snapshot_family c.args.disk.now c.open_folder.new.disk c.run_from.new.disk
       c.open_folder.ensures.disk c.run_from.ensures.serves.goes_on c.in-Ok.ensures.snapshot c.run_from.ensures.serves.snapshot;
 }
+
+pub returns-clause-short : goal.returns-clause-short
+returns-clause-short g c = on_ok_weaker c.run_from.result (λ short told.
+    let D = g.D.Disk in
+    let last = c.run_from.new.disk in
+    let opened_tells : IsTrue (D.kind c.open_folder.new.disk).tells = subst (λ (k : Kind). IsTrue k.tells) (sym c.open_folder.ensures.disk.same) told in
+    subst (λ n. GivesShortLog (λ files. ok (log_in files)) (D.images last) (D.moment last) n) (c.in-Ok.ensures.most ∙ ap (λ (n : RaftNodeConfig). n.raft.max_log_entries) c.node.ensures)
+    (short opened_tells (tt, tt, tt))) c.run_from.ensures.short
