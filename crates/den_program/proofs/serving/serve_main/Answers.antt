@@ -11,6 +11,9 @@ use Rattle.den_program.proofs.serving.serve_main.Goals as goal
 pub returns-clause-served : goal.returns-clause-served
 returns-clause-served g c = λ is. c.serve_words-answer.ensures.served (ok_at_0 c.serve_words-answer.result (sym c.status_of.ensures ∙ is))
 
+pub returns-clause-short : goal.returns-clause-short
+returns-clause-short g c = λ is. c.serve_words-answer.ensures.short (ok_at_0 c.serve_words-answer.result (sym c.status_of.ensures ∙ is))
+
 pub returns-clause-opening : goal.returns-clause-opening
 returns-clause-opening g c =
     less_known g.D.Disk g.L.Link g.C.Clock standard_run c.args.disk.now c.serve_words-answer.new.disk c.args.link.now c.serve_words-answer.new.link c.args.clock.now c.serve_words-answer.new.clock _ _

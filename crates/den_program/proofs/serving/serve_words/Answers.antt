@@ -1,5 +1,5 @@
 use Rattle.std.proofs.Common.{IsOk}
-use Rattle.den_server.specs.Promises.{Served, SendsPrefix, SurvivesCrash, SurvivesPending}
+use Rattle.den_server.specs.Promises.{Served, KeepsLogShort, SendsPrefix, SurvivesCrash, SurvivesPending}
 use Rattle.den_server.proofs.Promised.{survives_all_along, no_call_survives, no_call_goes_on, less_known}
 use Rattle.den_program.specs.Serving.{standard_run}
 use Rattle.den_program.proofs.Served.{under_standard}
@@ -36,6 +36,11 @@ pub returns-clause-served : goal.returns-clause-served
 returns-clause-served g c = λ is.
     under_standard (λ config. Served g.D.Disk g.L.Link g.C.Clock config c.args.disk.now c.run.new.disk c.args.link.now c.run.new.link c.args.clock.now c.run.new.clock)
     c.in-Ok.config.node c.in-Ok.ensures.standard (at_ok c.run.result is c.run.ensures.served)
+
+pub returns-clause-short : goal.returns-clause-short
+returns-clause-short g c = λ is.
+    under_standard (λ config. KeepsLogShort g.D.Disk g.L.Link g.C.Clock config c.args.disk.now c.run.new.disk c.args.link.now c.run.new.link c.args.clock.now c.run.new.clock)
+    c.in-Ok.config.node c.in-Ok.ensures.standard (at_ok c.run.result is c.run.ensures.short)
 
 pub returns-clause-prefix : goal.returns-clause-prefix
 returns-clause-prefix g c = under_standard (λ config. SendsPrefix g.D.Disk g.L.Link g.C.Clock config c.args.disk.now c.run.new.disk c.args.link.now c.run.new.link c.args.clock.now c.run.new.clock)
