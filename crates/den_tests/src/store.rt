@@ -51,10 +51,16 @@ struct Has {
     last: u64,
 }
 
-fn entries_of(alloc: Global, pairs: &[(u64, u64)]) -> Result<Vec<Entry>, Fail> {
+// There is no entry of index 0.
+fn entry_of(pair: (u64, u64)) -> Entry {
+    let index = if pair.0 == 0 { 1 } else { pair.0 };
+    Entry::of(index, pair.1, 1000, Command::Noop)
+}
+
+fn entries_of(alloc: Global, pairs: Pairs) -> Result<Vec<Entry>, Fail> {
     let mut entries = Vec::new(alloc);
     for pair in pairs {
-        entries.push(Entry::of(pair.0.max(1), pair.1, 1000, Command::Noop))?;
+        entries.push(entry_of(*pair))?;
     }
     Ok(entries)
 }
