@@ -37,7 +37,7 @@
 //! `GateFile::load` finds the list after a sync; `GateFile::reader` and `RegionReader::next` read it, one payload a call into
 //! a buffer that is used again, and `regions` as a whole; `append` adds to it, `reserve` makes room before. `draft_begin`,
 //! `draft_push` and `draft_commit` put another list in its place, one payload a call with appends between, and `rewrite` in
-//! one call. No crate calls these four yet.
+//! one call.
 #![tactic(auto)]
 
 mod add;
