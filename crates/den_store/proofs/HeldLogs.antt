@@ -8,8 +8,9 @@ use Rattle.den_model.specs.declared.region.LogRegion.TheVariants.{Append, Purge,
 use Rattle.den_model.specs.Entries.{LogEntry, EntriesFrom, rise_above, rise_from, begin_from}
 use Rattle.den_model.specs.Words.{FitsEntry, FitsLogRegion}
 use Rattle.den_model.proofs.Spells.{some_is}
+use Rattle.den_store.specs.Lookup.{rest_region}
 use Rattle.den_store.specs.Order.{IsInOrder}
-use Rattle.den_store.proofs.Rising.{lower, replaced_rise, rise_from_above, above_rise, below_rise}
+use Rattle.den_store.proofs.Rising.{lower, replaced_rise, rise_from_above, rise_from_lower, above_rise_from, above_rise, below_rise}
 use Rattle.den_model.specs.Log.{Log, floor, below, above, changed, replaced, is_lawful, last_of}
 
 pub last_none : (i : ℕ) (es : List LogEntry) → length es ≤ 0 → last_of i es ≡ i
@@ -132,6 +133,18 @@ append_made es some rise = ap (λ b. if b then Some es else None) (and_from (nat
 pub some_there : (es : List LogEntry) → (length es == 0) ≡ false → 0 < length es
 some_there [] none = absurd (cc none)
 some_there (e ∷ es) none = omega arith
+
+-- the region of entries that rise above an index
+rise_from_one : (index : ℕ) (es : List LogEntry) → rise_above index es ≡ true → rise_from 1 es ≡ true
+rise_from_one index es rise = rise_from_lower 1 (index + 1) es (omega arith) (above_rise_from index es rise)
+
+pub rest_some : (index : ℕ) (es new : List LogEntry) → rise_above index es ≡ true → Some new ≡ (if nat_le 1 (length es) && rise_from 1 es then Some es else None) → Some (Append new) ≡ rest_region es
+rest_some index [] new rise is = absurd (cc is)
+rest_some index (e ∷ es) new rise is = ap (λ (xs : List LogEntry). Some (Append xs)) (some_is new (e ∷ es) (is ∙ append_made (e ∷ es) (omega arith) (rise_from_one index (e ∷ es) rise)))
+
+pub rest_none : (index : ℕ) (es : List LogEntry) → rise_above index es ≡ true → None ≡ (if nat_le 1 (length es) && rise_from 1 es then Some es else None) → None ≡ rest_region es
+rest_none index [] rise is = refl
+rest_none index (e ∷ es) rise is = absurd (cc (is ∙ append_made (e ∷ es) (omega arith) (rise_from_one index (e ∷ es) rise)))
 
 pub none_there : (es : List LogEntry) → (length es == 0) ≡ true → length es ≤ 0
 none_there [] none = omega arith

@@ -1,3 +1,5 @@
+pub mod Anew
+pub mod Fitting
 pub mod HeldLogs
 pub mod Lookups
 pub mod Rising

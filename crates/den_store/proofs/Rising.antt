@@ -80,6 +80,13 @@ rise_from_above i (e ∷ es) h =
     let p = and_parts (nat_le (i + 1) e.index) (rise_from (e.index + 1) es) h in
     and_from (nat_lt i e.index) (rise_above e.index es) (lt-ltb i e.index (omega (arith, leb-true (i + 1) e.index p.0))) (rise_from_above e.index es p.1)
 
+-- those above one number rise from the next on
+pub above_rise_from : (i : ℕ) (es : List LogEntry) → rise_above i es ≡ true → rise_from (i + 1) es ≡ true
+above_rise_from i [] h = refl
+above_rise_from i (e ∷ es) h =
+    let p = and_parts (nat_lt i e.index) (rise_above e.index es) h in
+    and_from (nat_le (i + 1) e.index) (rise_from (e.index + 1) es) (le-leb (i + 1) e.index (omega (arith, ltb-true i e.index p.0))) (above_rise_from e.index es p.1)
+
 pub rise_from_begins : (i : ℕ) (es : List LogEntry) → rise_from i es ≡ true → begin_from i es ≡ true
 rise_from_begins i [] h = refl
 rise_from_begins i (e ∷ es) h = (and_parts (nat_le i e.index) (rise_from (e.index + 1) es) h).0

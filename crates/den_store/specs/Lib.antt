@@ -2,6 +2,7 @@ pub mod Changes
 pub mod Engine
 pub mod FileLog
 pub mod FileMeta
+pub mod Fits
 pub mod Folds
 pub mod Held
 pub mod LastState

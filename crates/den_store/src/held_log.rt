@@ -1,16 +1,19 @@
 // A log in memory: a boundary, and the entries above it in the order of their indices.
-ghost use Rattle.std.specs.Prelude.{◌≡◌, ◌+◌, ◌≤◌, true, length, take, drop, filter, nat_le, vec_len, vec_capacity, OnOk, IfOk};
+ghost use Rattle.std.specs.Prelude.{◌≡◌, ◌+◌, ◌≤◌, true, length, take, drop, filter, nat_le, vec_len, vec_capacity, OnOk, IfOk, IfSome};
+ghost use Rattle.std.specs.List.{AllByRecursion};
 ghost use Rattle.den_model.specs.Entries.{rise_above, begin_from};
 ghost use Rattle.den_model.specs.Log.{empty_log, floor, below, above, between, replaced, changed, is_lawful, last_index};
-ghost use Rattle.den_model.specs.Words.{FitsLogRegion};
+ghost use Rattle.den_model.specs.Words.{FitsEntry, FitsLogRegion};
 ghost use Rattle.den_model.specs.declared.region.LogRegion.TheVariants.{Truncate, Purge, Reset};
-ghost use Rattle.den_store.specs.Lookup.{entry_at, entries_of};
+ghost use Rattle.den_store.specs.Fits.{fits_prop};
+ghost use Rattle.den_store.specs.Lookup.{entry_at, entries_of, rest_region};
 ghost use Rattle.den_store.specs.Order.{IsInOrder};
 
 use crate::copies::copied;
 use den_codec::{Entry, LogId, LogRegion, Rows, Word};
 use den_disk::Family;
 use den_journal::Folded;
+use den_model::NewEntries;
 use std::alloc::{AllocError, Global};
 
 #[derive(Drop)]
@@ -18,6 +21,7 @@ pub(crate) struct HeldLog {
     boundary: Option<LogId>,
     entries: Vec<Entry>,
     ghost order: { IsInOrder (record { boundary = boundary; entries = entries.items }) },
+    ghost fits: { AllByRecursion FitsEntry entries.items } by { fits_prop entries.items },
 }
 
 impl HeldLog {
@@ -100,10 +104,25 @@ impl HeldLog {
         Ok(Rows::of(copied(alloc, &entries[from..])?))
     }
 
+    // The region of the held entries above an index, if there are any.
+    pub(crate) fn rest(&self, alloc: Global, index: u64) -> Result<Option<LogRegion>, AllocError>
+        ensures rest { IfOk result (λ rest. rest ≡ rest_region (above index (log_of self.now).entries)) }
+        ensures fits { IfOk result (λ rest. IfSome rest FitsLogRegion) }
+    {
+        let entries = self.entries.as_slice();
+        let purged = count_to(entries, index);
+        let kept = copied(alloc, &entries[purged..])?;
+        match NewEntries::of(Rows::of(kept)) {
+            Some(entries) => Ok(Some(LogRegion::Append { entries })),
+            None => Ok(None),
+        }
+    }
+
     // The entries from an index on give way to these. Takes no memory.
     fn replace(&mut self, from: u64, mut entries: Vec<Entry>)
         requires rise { rise_above (floor (log_of self.old)) entries.items ≡ true }
         requires begin { begin_from from entries.items ≡ true }
+        requires fits { AllByRecursion FitsEntry entries.items }
         requires room { vec_len self.old.entries + vec_len entries ≤ vec_capacity self.old.entries }
         ensures { log_of self.new ≡ replaced (log_of self.old) from entries.items }
     {

@@ -4,6 +4,8 @@ ghost use Rattle.den_disk.specs.declared.place.Family.TheVariants.{Log as log_fa
 ghost use Rattle.den_disk.specs.Place.{place_number};
 ghost use Rattle.den_model.specs.Image.{slot_of, log_in};
 ghost use Rattle.den_model.specs.Sizes.{entries_size, family_size};
+ghost use Rattle.den_model.specs.Words.{FitsLogRegion};
+ghost use Rattle.den_model.specs.declared.region.LogRegion.TheVariants.{Purge};
 ghost use Rattle.den_journal.specs.Writes.{Opens};
 ghost use Rattle.den_store.specs.FileLog.{log_shown, file_place, log_held, log_lies};
 ghost use Rattle.den_store.specs.Held.{log_of};
@@ -39,6 +41,16 @@ impl FileLogStore {
     }
 }
 
+// The region that purges a log up to an index.
+fn purge_of(index: u64, term: u64) -> LogRegion
+    requires { 1 ≤ index }
+    ensures is { result ≡ Purge index term }
+    ensures fits { FitsLogRegion (Purge index term) }
+{
+    let index = Positive::of(index);
+    LogRegion::Purge { index, term }
+}
+
 impl<D: Disk> LogStore<D> for FileLogStore {
     ghost shown = { log_shown };
 
@@ -65,9 +77,9 @@ impl<D: Disk> LogStore<D> for FileLogStore {
         if cutoff.index <= self.journal.held().floor() {
             return Ok(());
         }
-        let index = Positive::of(cutoff.index);
-        let term = cutoff.term;
-        self.journal.change(disk, LogRegion::Purge { index, term })
+        let rest = self.journal.held().rest(self.alloc, cutoff.index)?;
+        let region = purge_of(cutoff.index, cutoff.term);
+        self.journal.rewrite(disk, region, rest)
     }
 
     fn truncate(&mut self, disk: &mut D, from_index: u64) -> Result<(), Error> {

@@ -1,17 +1,19 @@
 //! The store of the hard state over a journal.
 ghost use Rattle.den_disk.specs.declared.place.Family.TheVariants.{Meta as meta_family};
+ghost use Rattle.std.specs.Prelude.{◌≡◌, IfSome};
 ghost use Rattle.den_model.specs.Image.{hard_state_held};
+ghost use Rattle.den_model.specs.Words.{FitsHardState, FitsVote};
 ghost use Rattle.den_journal.specs.Writes.{Opens};
 ghost use Rattle.den_store.specs.FileMeta.{meta_shown, state_held, meta_lies};
 
 use crate::MetaStore;
 use crate::last_state::LastState;
-use den_codec::{Error, HardState};
+use den_codec::{Error, HardState, VotedFor};
 use den_disk::Disk;
 use den_journal::Journal;
 use std::alloc::Global;
 
-/// The last hard state that was saved, in a file of all of them.
+/// The last hard state that was saved, in a file of its own.
 #[derive(Drop)]
 pub struct FileMetaStore {
     journal: Journal<LastState>,
@@ -30,6 +32,37 @@ impl FileMetaStore {
     }
 }
 
+// A vote, whose numbers fit its word.
+fn vote_of(id: u32, term: u64) -> VotedFor
+    ensures is { result ≡ record { id = id; term = term } }
+    ensures fits { FitsVote result }
+{
+    VotedFor { id, term }
+}
+
+// A hard state, whose numbers fit its word where those of its vote do.
+fn state_of(current_term: u64, voted_for: Option<VotedFor>) -> HardState
+    requires { IfSome voted_for FitsVote }
+    ensures is { result ≡ record { current_term = current_term; voted_for = voted_for } }
+    ensures fits { FitsHardState result }
+{
+    HardState {
+        current_term,
+        voted_for,
+    }
+}
+
+// The same hard state, whose numbers fit its word.
+fn copy_of(state: &HardState) -> HardState
+    ensures is { result ≡ state.now }
+    ensures fits { FitsHardState state.now }
+{
+    match state.voted_for {
+        None => state_of(state.current_term, None),
+        Some(vote) => state_of(state.current_term, Some(vote_of(vote.id, vote.term))),
+    }
+}
+
 impl<D: Disk> MetaStore<D> for FileMetaStore {
     ghost shown = { meta_shown };
 
@@ -38,7 +71,7 @@ impl<D: Disk> MetaStore<D> for FileMetaStore {
     ghost lies = { meta_lies };
 
     fn save_hard_state(&mut self, disk: &mut D, state: &HardState) -> Result<(), Error> {
-        self.journal.change(disk, *state)
+        self.journal.rewrite(disk, copy_of(state), None)
     }
 
     fn flush(&mut self, disk: &mut D) -> Result<(), Error> {

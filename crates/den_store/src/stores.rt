@@ -1,17 +1,17 @@
 //! What a log store and a store of the hard state are.
-ghost use Rattle.std.specs.Prelude.{◌≡◌, ◌≤◌, ◌<◌, ◌↔◌, ◌+◌, ℕ, true, false, IsTrue, List, [], Option, Some, IfSome, OnOk, IfOk, IfErr, length};
+ghost use Rattle.std.specs.Prelude.{◌≡◌, ◌≤◌, ◌<◌, ◌↔◌, ◌+◌, ℕ, true, false, IsTrue, List, [], Option, Some, IfSome, OnOk, IfOk, IfErr, IsOk, length};
 ghost use Rattle.den_codec.specs.declared.error.Error.TheVariants.{OutOfMemory, StorageIoError};
 ghost use Rattle.den_disk.specs.declared.place.Family.TheVariants.{Log as log_family, Meta as meta_family};
 ghost use Rattle.den_disk.specs.Goes.{Rose, DiskGoesOn};
 ghost use Rattle.den_model.specs.Entries.{rise_from};
 ghost use Rattle.den_model.specs.Log.{Log, between, floor, last_index};
-ghost use Rattle.den_model.specs.declared.region.LogRegion.TheVariants.{Append, Purge, Replace, Reset, Truncate};
+ghost use Rattle.den_model.specs.declared.region.LogRegion.TheVariants.{Append, Replace, Reset, Truncate};
 ghost use Rattle.den_model.specs.declared.log_id.HardState.{HardState};
 ghost use Rattle.den_journal.specs.Causes.{IsOfDisk};
 ghost use Rattle.den_journal.specs.Lies.{Lies};
 ghost use Rattle.den_journal.specs.Shown.{Held, Shown};
 ghost use Rattle.den_journal.specs.Writes.{Ends, Stands, Syncs, Writes};
-ghost use Rattle.den_store.specs.Changes.{log_change, state_change};
+ghost use Rattle.den_store.specs.Changes.{log_change, purge_change, state_change};
 ghost use Rattle.den_store.specs.Lookup.{entry_at};
 ghost use Rattle.den_store.specs.Order.{IsInOrder};
 
@@ -37,16 +37,16 @@ pub trait LogStore<D: Disk>: Drop {
         ensures writes { Writes D.Disk (shown self.old) (shown self.new) disk.old disk.new log_family holds
             (log_change (shown self.old).value (Append entries.now)) result }
         ensures same { IfErr result (λ e. IsOfDisk e → (shown self.new).value ≡ (shown self.old).value) }
-        ensures nothing { entries.now ≡ [] → disk.new ≡ disk.old };
+        ensures nothing { entries.now ≡ [] → (disk.new ≡ disk.old) × IsOk result };
 
-    /// Takes out the entries up to a cutoff, which becomes the boundary, where its index is above the boundary's. A
-    /// crash inside leaves the old log or the new one.
+    /// Takes out the entries up to a cutoff, which becomes the boundary, where its index is above the boundary's: the
+    /// boundary and the entries above it are written anew. A crash inside leaves the old log or the new one.
     fn purge(&mut self, disk: &mut D, cutoff: LogId) -> Result<(), Error>
         requires stands { Stands D.Disk (shown self.old) disk.old }
         ensures writes { Writes D.Disk (shown self.old) (shown self.new) disk.old disk.new log_family holds
-            (log_change (shown self.old).value (Purge cutoff.index cutoff.term)) result }
+            (purge_change (shown self.old).value cutoff) result }
         ensures same { IfErr result (λ e. IsOfDisk e → (shown self.new).value ≡ (shown self.old).value) }
-        ensures nothing { cutoff.index ≤ floor (shown self.old).value → disk.new ≡ disk.old };
+        ensures nothing { cutoff.index ≤ floor (shown self.old).value → (disk.new ≡ disk.old) × IsOk result };
 
     /// Takes out the entries from an index on. A crash inside leaves the old log or the new one.
     fn truncate(&mut self, disk: &mut D, from_index: u64) -> Result<(), Error>
@@ -132,7 +132,8 @@ pub trait MetaStore<D: Disk>: Drop {
     /// What files give of hard states, and whether it is told.
     ghost holds: { Held (Option HardState) };
 
-    /// Saves a hard state. A crash inside leaves the old one or the new one.
+    /// Saves a hard state: it is written anew, in place of the one before. A crash inside leaves the old one or the new
+    /// one.
     fn save_hard_state(&mut self, disk: &mut D, state: &HardState) -> Result<(), Error>
         requires stands { Stands D.Disk (shown self.old) disk.old }
         ensures writes { Writes D.Disk (shown self.old) (shown self.new) disk.old disk.new meta_family holds
