@@ -138,10 +138,6 @@ some_there (e ∷ es) none = omega arith
 rise_from_one : (index : ℕ) (es : List LogEntry) → rise_above index es ≡ true → rise_from 1 es ≡ true
 rise_from_one index es rise = rise_from_lower 1 (index + 1) es (omega arith) (above_rise_from index es rise)
 
-pub rest_some : (index : ℕ) (es new : List LogEntry) → rise_above index es ≡ true → Some new ≡ (if nat_le 1 (length es) && rise_from 1 es then Some es else None) → Some (Append new) ≡ rest_region es
-rest_some index [] new rise is = absurd (cc is)
-rest_some index (e ∷ es) new rise is = ap (λ (xs : List LogEntry). Some (Append xs)) (some_is new (e ∷ es) (is ∙ append_made (e ∷ es) (omega arith) (rise_from_one index (e ∷ es) rise)))
-
 pub rest_none : (index : ℕ) (es : List LogEntry) → rise_above index es ≡ true → None ≡ (if nat_le 1 (length es) && rise_from 1 es then Some es else None) → None ≡ rest_region es
 rest_none index [] rise is = refl
 rest_none index (e ∷ es) rise is = absurd (cc (is ∙ append_made (e ∷ es) (omega arith) (rise_from_one index (e ∷ es) rise)))

@@ -55,7 +55,7 @@ fn state_of(current_term: u64, voted_for: Option<VotedFor>) -> HardState
 // The same hard state, whose numbers fit its word.
 fn copy_of(state: &HardState) -> HardState
     ensures is { result ≡ state.now }
-    ensures fits { FitsHardState state.now }
+    ensures fits { FitsHardState result }
 {
     match state.voted_for {
         None => state_of(state.current_term, None),
@@ -70,6 +70,7 @@ impl<D: Disk> MetaStore<D> for FileMetaStore {
 
     ghost lies = { meta_lies };
 
+    #[tactic(auto, using(crate::proofs::Anew::state_gives, crate::proofs::Anew::state_small))]
     fn save_hard_state(&mut self, disk: &mut D, state: &HardState) -> Result<(), Error> {
         self.journal.rewrite(disk, copy_of(state), None)
     }
