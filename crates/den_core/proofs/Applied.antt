@@ -3,7 +3,7 @@ use Rattle.std.proofs.Common.{◌≡◌, ◌≤◌, ◌+◌, ℕ, arith, Bool, t
 use Rattle.std.specs.Prelude.{IfSome, if◌then◌else◌}
 use Rattle.std.proofs.lemmas.Result.{on_ok_weaker, IfErr-weaker}
 use Rattle.den_disk.specs.declared.disk.Disk.{Ghosts}
-use Rattle.den_disk.specs.declared.place.Family.TheVariants.{State as state_family}
+use Rattle.den_disk.specs.declared.place.Family.TheVariants.{Snapshot as snapshot_family, State as state_family}
 use Rattle.den_disk.specs.Files.{Files, Content}
 use Rattle.den_codec.specs.declared.error.Error.{Error}
 use Rattle.den_codec.specs.declared.error.Error.TheVariants as error
@@ -22,6 +22,9 @@ use Rattle.den_journal.proofs.Moving.{goes_nowhere, moves_nothing}
 use Rattle.den_state.specs.Changes.{chunk_change}
 use Rattle.den_state.specs.Chunk.{IsChunkRefusal, refusal_of_chunk}
 use Rattle.den_state.specs.Machine.{AtRest}
+
+state_served : state_family ≡ snapshot_family → ⊥
+state_served e = cc
 
 -- ---- the refusal of a chunk
 
@@ -52,9 +55,9 @@ module _ (leased : Bool) (mark : ℕ) (chunk : List LogEntry) where
         | None ↦ λ at some. let lease = lease_refusal (lacks_lease leased chunk) e some in subst P (sym lease.0) (at, lease.1)
       ] refl is
 
-  pub turned_light : (most weight : ℕ) (e : Error) → refusal_of_chunk leased mark chunk ≡ Some e → IsFullBy most weight e
-  turned_light most weight e is =
-      let P : Error → Type 0 = IsFullBy most weight in
+  pub turned_light : (told : Type 0) (files : Files) (most weight : ℕ) (e : Error) → refusal_of_chunk leased mark chunk ≡ Some e → IsFullBy told files most weight e
+  turned_light told files most weight e is =
+      let P : Error → Type 0 = IsFullBy told files most weight in
       elim (out_of_order mark chunk) as (λ o. by_order o ≡ Some e → P e) [
         | Some index ↦ λ some. let is : error.UnorderedChunk index ≡ e = cc some in subst P is tt
         | None ↦ λ some. let lease = lease_refusal (lacks_lease leased chunk) e some in subst P (sym lease.0) tt
@@ -105,11 +108,11 @@ module _ {D T : Type 0} (disk : Ghosts D) (holds : Held MapState) (was now : Sho
       by_refusal (IfErr result P) (λ e is r d. subst (λ (x : Result T Error). IfErr x P) (sym r) (turned leased mark chunk (Faulted disk old new) (disk.kind old).limit e is))
       (λ none w. IfErr-weaker result _ P (λ e r. disk_refused leased mark chunk (Faulted disk old new) (disk.kind old).limit e none r.cause) w.refused)
 
-  pub chunk_full : IfErr result (IsFullBy (disk.kind old).limit (was.weight + store_rise (entries_size chunk)))
+  pub chunk_full : IfErr result (IsFullBy (Tells disk old × holds.told) (disk.content new).reading (disk.kind old).limit (was.weight + store_rise (entries_size chunk)))
   chunk_full =
-      let P : Error → Type 0 = IsFullBy (disk.kind old).limit (was.weight + store_rise (entries_size chunk)) in
-      by_refusal (IfErr result P) (λ e is r d. subst (λ (x : Result T Error). IfErr x P) (sym r) (turned_light leased mark chunk (disk.kind old).limit (was.weight + store_rise (entries_size chunk)) e is))
-      (λ none w. IfErr-weaker result _ P (λ e r. full_by _ _ _ _ _ _ e (let light = light_chunk was.value chunk in omega (arith, light)) r.full r.heavy) w.refused)
+      let P : Error → Type 0 = IsFullBy (Tells disk old × holds.told) (disk.content new).reading (disk.kind old).limit (was.weight + store_rise (entries_size chunk)) in
+      by_refusal (IfErr result P) (λ e is r d. subst (λ (x : Result T Error). IfErr x P) (sym r) (turned_light leased mark chunk (Tells disk old × holds.told) (disk.content new).reading (disk.kind old).limit (was.weight + store_rise (entries_size chunk)) e is))
+      (λ none w. IfErr-weaker result _ P (λ e r. full_by _ state_family _ _ _ _ _ e state_served (λ n is. let light = light_chunk was.value chunk in omega (arith, light, is)) (λ n never. absurd never) r.full r.heavy) w.refused)
 
 -- a state machine whose files give the map that a chunk made
 pub at_rest_ok : {T : Type 0} (Told : Type 0) {n : ℕ} (now : Shown MapState) (map : MapState) (content : Content) (result : Result T Error) → OnOk result (Told → now.rests content) → OnOk result (1 ≤ n → now.value ≡ map) → 1 ≤ n

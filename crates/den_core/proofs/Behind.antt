@@ -82,7 +82,7 @@ module _ {D : Type 0} (disk : Ghosts D) (was mid now : Seen) (old between new : 
     done = not_done r e _ exit;
     refused = at_exit r e _ exit (record {
       cause = refusal_behind _ _ _ _ e (λ rose. omega (arith, rose, one.goes_on.counts)) (ap (λ (k : Kind). k.limit) one.goes_on.same) two.refused.cause;
-      full = heavier _ _ _ _ e (ap (λ (k : Kind). k.limit) one.goes_on.same) (omega (arith, one.done.weight)) two.refused.full;
+      full = heavier _ _ _ _ _ _ _ e (λ t. (tells_then t.0, t.1)) (ap (λ (k : Kind). k.limit) one.goes_on.same) (omega (arith, one.done.weight)) two.refused.full;
       left = left_then e now.failed _ _ _ _ failed
           (λ still. record { some = some; joined = still.same_log ∙ exact })
           (λ same. record { some = some; joined = same ∙ exact }) two.refused.left;

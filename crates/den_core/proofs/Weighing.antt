@@ -1,11 +1,15 @@
 -- How long the words are that an engine hands its stores, and when a disk may be told to be full of them.
-use Rattle.std.proofs.Common.{◌≡◌, ℕ, ◌≤◌, ◌+◌, ◌-◌, ◌*◌, ◌^◌, ◌∙◌, min, List, [], ◌∷◌, ◌++◌, length, Option, Some, None, Result, Ok, Err, IfErr, sym, ap, subst, arith, length-append}
+use Rattle.std.proofs.Common.{◌≡◌, ◌⊎◌, inl, inr, refl, ℕ, ◌≤◌, ◌+◌, ◌-◌, ◌*◌, List, [], ◌∷◌, ◌++◌, length, Option, Some, None, Result, Ok, Err, IfErr, sym, ap, subst, arith, length-append}
 use Rattle.std.specs.Prelude.{IfSome}
 use Rattle.std.specs.Result.{IsErrAnd}
 use Rattle.den_codec.specs.Full.{IsHeavy}
-use Rattle.den_gate.specs.Slot.{room_for, whole_chunks}
-use Rattle.den_journal.specs.Causes.{IsFullFor}
-use Rattle.den_core.specs.Full.{IsFullBy}
+use Rattle.den_disk.specs.declared.place.Family.{Family}
+use Rattle.den_disk.specs.declared.place.Family.TheVariants.{Snapshot}
+use Rattle.den_disk.specs.Files.{Files}
+use Rattle.den_gate.specs.Draft.{other_slot}
+use Rattle.den_model.specs.Image.{slot_of}
+use Rattle.den_journal.specs.Causes.{IsFullFor, IsTooShort}
+use Rattle.den_core.specs.Full.{IsFullBy, IsSlotTooShort}
 use Rattle.den_codec.specs.declared.error.Error.{Error}
 use Rattle.den_codec.specs.declared.error.Error.TheVariants.{OutOfMemory, StorageIoError, DiskFull, LinkFault, DataCorruption, FeatureNotEnabled, ProposeFailed, UnorderedChunk, Config, StateMachineError}
 use Rattle.den_model.specs.declared.command.Command.{Command}
@@ -30,40 +34,74 @@ use Rattle.den_core.specs.Weights.{frame_rise, served_weight, write_rise}
 
 -- ---- what is told
 
--- of what is heavier, the more so
-pub heavier : (most more : ℕ) (weight above : ℕ) (e : Error) → more ≡ most → weight ≤ above → IsFullBy more weight e → IsFullBy most above e
-heavier most more weight above (DiskFull needed limit) same le full = (omega (arith, full.0), full.1, omega (arith, full.2), full.3)
-heavier most more weight above OutOfMemory same le full = tt
-heavier most more weight above StorageIoError same le full = tt
-heavier most more weight above LinkFault same le full = tt
-heavier most more weight above (DataCorruption place offset) same le full = tt
-heavier most more weight above FeatureNotEnabled same le full = tt
-heavier most more weight above ProposeFailed same le full = tt
-heavier most more weight above (UnorderedChunk index) same le full = tt
-heavier most more weight above (Config place) same le full = tt
-heavier most more weight above StateMachineError same le full = tt
+-- of what is heavier, the more so, where no more is told
+pub short_slot : (weight above needed : ℕ) (files : Files) → weight ≤ above → IsSlotTooShort weight needed files → IsSlotTooShort above needed files
+short_slot weight above needed files le slot = record {
+  family = slot.family;
+  served = slot.served;
+  slot = slot.slot;
+  of_family = slot.of_family;
+  short = record { size = slot.short.size; meant = omega (arith, slot.short.meant); room = slot.short.room; short = slot.short.short };
+}
+
+pub heavier : (told more : Type 0) (files : Files) (most same : ℕ) (weight above : ℕ) (e : Error) → (told → more) → same ≡ most → weight ≤ above → IsFullBy more files same weight e → IsFullBy told files most above e
+heavier told more files most same weight above (DiskFull needed limit) so is le full = (
+  omega (arith, full.0),
+  record { size = full.1.size; within = omega (arith, full.1.within); room = full.1.room },
+  λ t. short_slot weight above needed files le (full.2 (so t)),
+)
+heavier told more files most same weight above OutOfMemory so is le full = tt
+heavier told more files most same weight above StorageIoError so is le full = tt
+heavier told more files most same weight above LinkFault so is le full = tt
+heavier told more files most same weight above (DataCorruption place offset) so is le full = tt
+heavier told more files most same weight above FeatureNotEnabled so is le full = tt
+heavier told more files most same weight above ProposeFailed so is le full = tt
+heavier told more files most same weight above (UnorderedChunk index) so is le full = tt
+heavier told more files most same weight above (Config place) so is le full = tt
+heavier told more files most same weight above StateMachineError so is le full = tt
 
 -- at the exit of a call that answers its callee's refusal
-pub heavier_out : {T : Type 0} (r : Result T Error) (e : Error) (most more : ℕ) (weight above : ℕ) → IsErrAnd r (λ y. y ≡ e) → more ≡ most → weight ≤ above → IsFullBy more weight e → IfErr r (IsFullBy most above)
-heavier_out (Ok x) e most more weight above is same le full = tt
-heavier_out (Err y) e most more weight above is same le full = heavier most more weight above y same le (subst (IsFullBy more weight) (sym is) full)
+pub heavier_out : {T : Type 0} (r : Result T Error) (e : Error) (told more : Type 0) (files : Files) (most same : ℕ) (weight above : ℕ) → IsErrAnd r (λ y. y ≡ e) → (told → more) → same ≡ most → weight ≤ above
+    → IsFullBy more files same weight e → IfErr r (IsFullBy told files most above)
+heavier_out (Ok x) e told more files most same weight above at so is le full = tt
+heavier_out (Err y) e told more files most same weight above at so is le full = heavier told more files most same weight above y so is le (subst (IsFullBy more files same weight) (sym at) full)
 
--- regions and one more need the room of one of all their bytes
-same_room : (weight size : ℕ) → room_for weight size ≡ room_for (weight + size) 0
-same_room weight size = let same : weight + 10 + size ≡ weight + size + 10 + 0 = omega arith in ap (λ n. min (whole_chunks n) (2 ^ 64 - 1)) same
+-- of any refusal
+pub heavier_all : {T : Type 0} (r : Result T Error) (told more : Type 0) (files : Files) (most same : ℕ) (weight above : ℕ) → (told → more) → same ≡ most → weight ≤ above → IfErr r (IsFullBy more files same weight) → IfErr r (IsFullBy told files most above)
+heavier_all (Ok x) told more files most same weight above so is le full = tt
+heavier_all (Err e) told more files most same weight above so is le full = heavier told more files most same weight above e so is le full
+
+-- a family's slot in use has too little room, or its other one
+slot_by : (family : Family) (files : Files) (most needed : ℕ) (adds drafts : ℕ → Type 0) → (family ≡ Snapshot → ⊥) → ((n : ℕ) → adds n → n ≤ most) → ((n : ℕ) → drafts n → n ≤ most)
+    → IsTooShort (slot_of family files) adds needed files ⊎ IsTooShort (other_slot (slot_of family files)) drafts needed files → IsSlotTooShort most needed files
+slot_by family files most needed adds drafts served added drafted (inl short) = record {
+  family = family;
+  served = served;
+  slot = slot_of family files;
+  of_family = inl refl;
+  short = record { size = short.size; meant = added short.size short.meant; room = short.room; short = short.short };
+}
+slot_by family files most needed adds drafts served added drafted (inr short) = record {
+  family = family;
+  served = served;
+  slot = other_slot (slot_of family files);
+  of_family = inr refl;
+  short = record { size = short.size; meant = drafted short.size short.meant; room = short.room; short = short.short };
+}
 
 -- what a store was refused
-pub full_by : (tells : Type 0) (slot : List ℕ) (most weight size rise : ℕ) (e : Error) → size ≤ rise → IsFullFor tells slot weight size e → IsHeavy most (weight + rise) e → IsFullBy most (weight + rise) e
-full_by tells slot most weight size rise (DiskFull needed limit) within full heavy = (heavy, weight + size, omega arith, full.0 ∙ same_room weight size)
-full_by tells slot most weight size rise OutOfMemory within full heavy = tt
-full_by tells slot most weight size rise StorageIoError within full heavy = tt
-full_by tells slot most weight size rise LinkFault within full heavy = tt
-full_by tells slot most weight size rise (DataCorruption place offset) within full heavy = tt
-full_by tells slot most weight size rise FeatureNotEnabled within full heavy = tt
-full_by tells slot most weight size rise ProposeFailed within full heavy = tt
-full_by tells slot most weight size rise (UnorderedChunk index) within full heavy = tt
-full_by tells slot most weight size rise (Config place) within full heavy = tt
-full_by tells slot most weight size rise StateMachineError within full heavy = tt
+pub full_by : (told : Type 0) (family : Family) (files : Files) (most weight : ℕ) (adds drafts : ℕ → Type 0) (e : Error) → (family ≡ Snapshot → ⊥) → ((n : ℕ) → adds n → n ≤ weight) → ((n : ℕ) → drafts n → n ≤ weight)
+    → IsFullFor told family files weight adds drafts e → IsHeavy most weight e → IsFullBy told files most weight e
+full_by told family files most weight adds drafts (DiskFull needed limit) served added drafted full heavy = (heavy, full.0, λ t. slot_by family files weight needed adds drafts served added drafted (full.1 t))
+full_by told family files most weight adds drafts OutOfMemory served added drafted full heavy = tt
+full_by told family files most weight adds drafts StorageIoError served added drafted full heavy = tt
+full_by told family files most weight adds drafts LinkFault served added drafted full heavy = tt
+full_by told family files most weight adds drafts (DataCorruption place offset) served added drafted full heavy = tt
+full_by told family files most weight adds drafts FeatureNotEnabled served added drafted full heavy = tt
+full_by told family files most weight adds drafts ProposeFailed served added drafted full heavy = tt
+full_by told family files most weight adds drafts (UnorderedChunk index) served added drafted full heavy = tt
+full_by told family files most weight adds drafts (Config place) served added drafted full heavy = tt
+full_by told family files most weight adds drafts StateMachineError served added drafted full heavy = tt
 
 -- ---- words
 

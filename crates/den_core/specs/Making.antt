@@ -70,9 +70,9 @@ module _ {D : Type 0} (disk : Ghosts D) where
 
     -- A refusal of a call by which the weight rises so much at most. `written` is what was written where want of memory
     -- left a stepper that has failed.
-    pub record IsRefused (rise : ℕ) (written : Type 0) (e : Error) : Type 0 where
+    pub record IsRefused (says : Says) (rise : ℕ) (written : Type 0) (e : Error) : Type 0 where
       pub cause : IsRefusal (Faulted disk old new) (disk.kind old).limit e
-      pub full : IsFullBy (disk.kind old).limit (was.weight + rise) e
+      pub full : IsFullBy (Tells disk old × says.told) (disk.content new).reading (disk.kind old).limit (was.weight + rise) e
       pub left : FailsOrStays now.failed IsUntouched written e
 
     -- a stepper that made these steps
@@ -91,7 +91,7 @@ module _ {D : Type 0} (disk : Ghosts D) where
       pub same_most : now.most ≡ was.most
       pub survives : Tells disk old → says.told → Survives says.holds (disk.images new) (disk.moment old) (disk.moment new) [] was.kv steps
       pub done : OnOk result (Made steps rise)
-      pub refused : IfErr result (IsRefused rise written)
+      pub refused : IfErr result (IsRefused says rise written)
 
     -- A stepper of this durable part, in whose log are these entries more. Entries up to the last that was applied may have
     -- been purged behind them.
@@ -109,11 +109,11 @@ module _ {D : Type 0} (disk : Ghosts D) where
       pub same_most : now.most ≡ was.most
       pub moves : Tells disk old → says.told → OldOrNew says.holds (disk.images new) (disk.moment old) (disk.moment new) was.kv.durable to
       pub done : OnOk result (Changed to entries rise)
-      pub refused : IfErr result (IsRefused rise (HasJoined was.log entries now.log))
+      pub refused : IfErr result (IsRefused says rise (HasJoined was.log entries now.log))
 
     -- A call that serves frames. A log that was short at entry is at Ok. A full disk is told by the weight that it comes to
     -- at most. The link may refuse it too, where its count of faults rose. The snapshot's files are left alone.
-    pub record Serves {T : Type 0} (link_faulted : Type 0) (most : ℕ) (result : Result T Error) : Type 0 where
+    pub record Serves {T : Type 0} (says : Says) (link_faulted : Type 0) (most : ℕ) (result : Result T Error) : Type 0 where
       pub goes_on : GoesOn disk old new
       pub snapshot : Tells disk old → SparesFamily snapshot_family disk.content disk.moment disk.images old new
       pub same_most : now.most ≡ was.most
@@ -121,4 +121,4 @@ module _ {D : Type 0} (disk : Ghosts D) where
       pub rests : OnOk result (Tells disk old → now.rests (disk.content new))
       pub short : OnOk result (LogIsShort was → LogIsShort now)
       pub refused : IfErr result (IsServeRefusal (Faulted disk old new) link_faulted (disk.kind old).limit)
-      pub full : IfErr result (IsFullBy (disk.kind old).limit most)
+      pub full : IfErr result (IsFullBy (Tells disk old × says.told) (disk.content new).reading (disk.kind old).limit most)

@@ -32,7 +32,7 @@ pub(crate) fn apply_at_rest<D: Disk, M: StateMachine<D>>(
     ensures rests { OnOk result (IsTrue (D.kind disk.old).tells → AtRest (M.shown state.new) (M.map state.new) (D.content disk.new)) }
     ensures weight { OnOk result ((M.shown state.new).weight ≤ (M.shown state.old).weight + store_rise (entries_size chunk.now)) }
     ensures refused { IfErr result (λ e. IsChunkRefusal (M.settings state.old).leased (Rose (D.faults disk.old) (D.faults disk.new)) (D.kind disk.old).limit (M.map state.old).mark.index chunk.now e) }
-    ensures full { IfErr result (IsFullBy (D.kind disk.old).limit ((M.shown state.old).weight + store_rise (entries_size chunk.now))) }
+    ensures full { IfErr result (IsFullBy (IsTrue (D.kind disk.old).tells × M.holds.told) (D.content disk.new).reading (D.kind disk.old).limit ((M.shown state.old).weight + store_rise (entries_size chunk.now))) }
 {
     state.apply_chunk(disk, chunk)
 }

@@ -97,7 +97,7 @@ fn serve_frame<D: Disk, L: Link, S: Stepper<D>>(
     ensures whole { OnOk result (IsTrue (L.tells link.old)
         → IsWhole (added (L.sent link.old) (L.sent link.new)) (S.seen stepper.old).kv (S.seen stepper.old).log (turn (S.seen stepper.old).kv frame time) (S.seen stepper.new).kv (S.seen stepper.new).log) }
     ensures weight { OnOk result ((S.seen stepper.new).weight ≤ (S.seen stepper.old).weight + frame_rise frame) }
-    ensures serves { Serves D.Disk (S.seen stepper.old) (S.seen stepper.new) disk.old disk.new (Rose (L.faults link.old) (L.faults link.new))
+    ensures serves { Serves D.Disk (S.seen stepper.old) (S.seen stepper.new) disk.old disk.new S.says (Rose (L.faults link.old) (L.faults link.new))
         ((S.seen stepper.old).weight + frame_rise frame) result }
 {
     let out = stepper.step(disk, frame, time)?;
@@ -130,7 +130,7 @@ pub fn serve<D: Disk, L: Link, C: Clock, S: Stepper<D>>(
         → IsDone (L.left link.new) (length (added (C.readings clock.old) (C.readings clock.new))) (length (frames limit (L.left link.old)))
         (added (L.sent link.old) (L.sent link.new)) (S.seen stepper.old).kv (S.seen stepper.old).log
         (turns (S.seen stepper.old).kv (frames limit (L.left link.old)) (added (C.readings clock.old) (C.readings clock.new))) (S.seen stepper.new).kv (S.seen stepper.new).log) }
-    ensures serves { Serves D.Disk (S.seen stepper.old) (S.seen stepper.new) disk.old disk.new (Rose (L.faults link.old) (L.faults link.new))
+    ensures serves { Serves D.Disk (S.seen stepper.old) (S.seen stepper.new) disk.old disk.new S.says (Rose (L.faults link.old) (L.faults link.new))
         (served_weight (S.seen stepper.old).weight (L.taken link.new - L.taken link.old)) result }
 {
     let mut reader = FrameReader::new(alloc, limit);
@@ -183,7 +183,7 @@ pub fn run_from<D: Disk, L: Link, C: Clock, S: Stepper<D>>(
     ensures link { LinkGoesOn L.tells L.sent L.budget L.taken L.faults link.old link.new }
     ensures clock { ClockGoesOn C.tells C.readings clock.old clock.new }
     ensures counted { IsTrue (L.tells link.old) → L.taken link.new + length (L.left link.new) ≡ L.taken link.old + length (L.left link.old) }
-    ensures serves { Serves D.Disk (S.seen stepper.old) (S.seen stepper.new) disk.old disk.new (Rose (L.faults link.old) (L.faults link.new))
+    ensures serves { Serves D.Disk (S.seen stepper.old) (S.seen stepper.new) disk.old disk.new S.says (Rose (L.faults link.old) (L.faults link.new))
         (run_weight (S.seen stepper.old).weight (L.taken link.new - L.taken link.old)) result }
 {
     let time = clock.now().max(1);

@@ -115,8 +115,8 @@ module _ {D L : Type 0} (disk : Disks D) (link : Links L) (old new : D) (from to
       → (IsMuch (disk.kind old).limit (files_size (disk.content old).reading + length (link.left from)) → ⊥) → served ⊎ memory
 
   -- An answer other than Ok has its cause: files are refused for what they are refused for, and for nothing else; the
-  -- disk is told to be full only with a room that is above its limit, and only where the bytes of its regions at entry
-  -- and those taken from the link are much.
+  -- disk is told to be full only with a room that is above its limit and that one of its slots would need at the end, and
+  -- only where the bytes of its regions at entry and those taken from the link are much.
   abbrev pub EndsEarly : Error → Type 0
   EndsEarly e = IsRunRefusal (Faulted disk old new) (Rose (link.faults from) (link.faults to)) (Tells disk old) (refusal_in (disk.content old).reading)
-      (disk.kind old).limit (files_size (disk.content old).reading) (link.taken to - link.taken from) e
+      (disk.content new).reading (disk.kind old).limit (files_size (disk.content old).reading) (link.taken to - link.taken from) e

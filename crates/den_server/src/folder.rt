@@ -127,7 +127,7 @@ pub fn open_folder<D: Disk>(
     ensures snapshot { IsTrue (D.kind disk.old).tells → SparesFamily snapshot_family D.content D.moment D.images disk.old disk.new }
     ensures accepted { IfOk result (λ engine. IsTrue (D.kind disk.old).tells → refusal_in (D.content disk.old).reading ≡ None) }
     ensures refused { IfErr result (IsRunRefusal (Rose (D.faults disk.old) (D.faults disk.new)) ⊥ (IsTrue (D.kind disk.old).tells) (refusal_in (D.content disk.old).reading)
-        (D.kind disk.old).limit (files_size (D.content disk.old).reading) 0) }
+        (D.content disk.new).reading (D.kind disk.old).limit (files_size (D.content disk.old).reading) 0) }
     ensures untouched { (e : Error) → IsTrue (D.kind disk.old).tells → refusal_in (D.content disk.old).reading ≡ Some e
         → IsUnwritten (D.content disk.old) (D.content disk.new) (NoNewImages (D.images disk.old) (D.images disk.new) (D.moment disk.old) (D.moment disk.new)) }
 {

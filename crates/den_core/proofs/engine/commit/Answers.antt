@@ -51,8 +51,8 @@ returns-in_err-persist_entries-clause-makes g c =
       done = not_done c.from_residual.result c.in_err-persist_entries.field-0.0 _ c.from_residual.ensures.1;
       refused = at_exit c.from_residual.result c.in_err-persist_entries.field-0.0 _ c.from_residual.ensures.1 (record {
         cause = writes.refused.cause;
-        full = heavier _ _ _ _ c.in_err-persist_entries.field-0.0 refl (omega (arith, entry_is c.of.result _ _ _ c.args.command c.of.ensures))
-            (full_by _ _ _ _ _ _ c.in_err-persist_entries.field-0.0 (omega (arith, log_rises (Append (c.of.result ∷ [])))) writes.refused.full writes.refused.heavy);
+        full = heavier _ _ _ _ _ _ _ c.in_err-persist_entries.field-0.0 (λ t. (t.0, t.1.0)) refl (omega (arith, entry_is c.of.result _ _ _ c.args.command c.of.ensures))
+            (full_by _ _ _ _ _ _ _ c.in_err-persist_entries.field-0.0 (λ is. snapshot_log (sym is)) (λ n is. omega (arith, is, log_rises (Append (c.of.result ∷ [])))) (λ n never. absurd never) writes.refused.full writes.refused.heavy);
         left = let D = g.D.Disk in
             let engine = c.args.engine.now in
             let refused = c.in_err-persist_entries.ensures.writes.refused in
@@ -140,7 +140,8 @@ returns-in_err-results-clause-makes g c =
           (apply.own then held.2)));
       done = not_done c.from_residual-in_err-results.result c.in_err-results.field-0.0 _ c.from_residual-in_err-results.ensures.1;
       refused = if_err_three c.from_residual-in_err-results.result _ _ _ _ (λ e cause full left. record { cause = cause; full = full; left = left }) cause
-          (heavier_out c.from_residual-in_err-results.result c.in_err-results.field-0.0 _ _ _ _ c.from_residual-in_err-results.ensures.1
+          (heavier_out c.from_residual-in_err-results.result c.in_err-results.field-0.0 _ _ _ _ _ _ _ c.from_residual-in_err-results.ensures.1
+          (λ t. (subst (λ k. IsTrue k.tells) (sym c.persist_entries.ensures.writes.goes_on.same) t.0, t.1.2))
           (ap (λ (k : Kind). k.limit) c.persist_entries.ensures.writes.goes_on.same)
           (omega (arith, entry_is c.of.result _ _ _ c.args.command c.of.ensures)) c.in_err-results.ensures.full)
           (let engine = c.args.engine.now in

@@ -49,7 +49,7 @@ returns-clause-makes g c =
       }) writes.done;
       refused = if_err_weaker c.save_hard_state.result _ _ (λ e refused. record {
         cause = refused.cause;
-        full = heavier _ _ _ _ e refl (omega (arith, hard_state_length (record { current_term = c.current_term-term.result + 1; voted_for = c.vote.result }))) (full_by _ _ _ _ _ _ e (omega arith) refused.full refused.heavy);
+        full = heavier _ _ _ _ _ _ _ e (λ t. (t.0, t.1.1)) refl (omega (arith, hard_state_length (record { current_term = c.current_term-term.result + 1; voted_for = c.vote.result }))) (full_by _ _ _ _ _ _ _ e (λ is. snapshot_meta (sym is)) (λ n is. omega (arith, is)) (λ n never. absurd never) refused.full refused.heavy);
         left = fails_or_stays _ _ e _ _ _ refused.cause
             (λ memory.
             let same = untouched_only (λ lost. lost.may_be) (refused.untouched memory) in

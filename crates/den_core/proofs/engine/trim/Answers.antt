@@ -73,8 +73,8 @@ returns-in_err-purge-clause-makes g c =
       done = not_done c.from_residual.result c.in_err-purge.field-0.0 _ c.from_residual.ensures.1;
       refused = at_exit c.from_residual.result c.in_err-purge.field-0.0 _ c.from_residual.ensures.1 (record {
         cause = writes.refused.cause;
-        full = heavier _ _ _ _ c.in_err-purge.field-0.0 refl (omega arith)
-            (full_by _ _ _ _ _ _ c.in_err-purge.field-0.0 (omega (arith, log_rises (Purge c.last_applied-applied.result.index c.last_applied-applied.result.term))) writes.refused.full writes.refused.heavy);
+        full = heavier _ _ _ _ _ _ _ c.in_err-purge.field-0.0 (λ t. (t.0, t.1.0)) refl (omega arith)
+            (full_by _ _ _ _ _ _ _ c.in_err-purge.field-0.0 (λ is. snapshot_log (sym is)) (λ n is. omega (arith, is, log_rises (Purge c.last_applied-applied.result.index c.last_applied-applied.result.term))) (λ n never. absurd never) writes.refused.full writes.refused.heavy);
         left = fails_or_stays _ _ c.in_err-purge.field-0.0 _ _ _ writes.refused.cause
             (λ memory. inr (inl refl, (untouched_only (λ lost. lost.may_be) (writes.refused.untouched memory)).same_value)) (λ disk. inl refl);
       });

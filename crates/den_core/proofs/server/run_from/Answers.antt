@@ -1,13 +1,12 @@
-use Rattle.std.proofs.Common.{◌-◌, IsTrue, IfErr, rules, arith, sym, ◌∙◌, subst}
+use Rattle.std.proofs.Common.{IsTrue, IfErr, rules, arith, ap, sym, ◌∙◌, subst}
 use Rattle.std.proofs.lemmas.Result.{on_ok_weaker}
 use Rattle.den_disk.specs.Files.{Kind}
 use Rattle.den_model.specs.Crash.{Stands, Tells}
 use Rattle.den_model.specs.Frames.{frames}
 use Rattle.den_core.proofs.GoesOn.{disk_twice, on_ok_three}
 use Rattle.den_core.proofs.Beginning.{opens_only, runs, runs_answered, runs_whole}
-use Rattle.den_core.specs.Full.{IsFullBy}
+use Rattle.den_core.proofs.Weighing.{heavier_all}
 use Rattle.den_core.specs.Refusals.{IsServeRefusal}
-use Rattle.den_core.specs.Weights.{run_weight}
 use Rattle.den_disk.specs.Goes.{Rose}
 use Rattle.den_core.proofs.Spared.{spares_twice}
 use Rattle.den_core.proofs.Stretch.{stands_now}
@@ -73,7 +72,6 @@ pub returns-clause-serves : goal.returns-clause-serves
 returns-clause-serves g c =
     let serves = c.serve.ensures.serves in
     let refused : IfErr c.serve.result (λ e. IsServeRefusal (Rose (g.D.Disk.faults c.args.disk.now) (g.D.Disk.faults c.serve.new.disk)) (Rose (g.L.Link.faults c.args.link.now) (g.L.Link.faults c.serve.new.link)) (g.D.Disk.kind c.args.disk.now).limit e) = search rules in
-    let full : IfErr c.serve.result (λ e. IsFullBy (g.D.Disk.kind c.args.disk.now).limit (run_weight (g.S.Stepper.seen c.args.stepper.now).weight (g.L.Link.taken c.serve.new.link - g.L.Link.taken c.args.link.now)) e) = search rules in
     record {
       goes_on = disk_twice _ _ _ _ _ _ _ c.open_at.ensures.makes.goes_on serves.goes_on;
       snapshot = spares_twice _ _ _ _ _ _ _ _ _ c.open_at.ensures.makes.goes_on serves.goes_on c.open_at.ensures.makes.snapshot serves.snapshot;
@@ -82,5 +80,6 @@ returns-clause-serves g c =
       ready = serves.ready;
       rests = on_ok_weaker c.serve.result (λ rests told. rests (subst (λ (k : Kind). IsTrue k.tells) (sym c.open_at.ensures.makes.goes_on.same) told)) serves.rests;
       refused = refused;
-      full = full;
+      full = heavier_all c.serve.result _ _ _ _ _ _ _ (λ t. (subst (λ (k : Kind). IsTrue k.tells) (sym c.open_at.ensures.makes.goes_on.same) t.0, t.1)) (ap (λ (k : Kind). k.limit) c.open_at.ensures.makes.goes_on.same)
+          (omega (arith, c.in_ok-open_at.ensures.makes.done.weight)) serves.full;
     }

@@ -68,7 +68,8 @@ returns-in_err-serve_frame-clause-serves g c =
       ready = not_done c.from_residual-in_err-serve_frame.result c.in_err-serve_frame.field-0.0 _ c.from_residual-in_err-serve_frame.ensures.1;
       rests = not_done c.from_residual-in_err-serve_frame.result c.in_err-serve_frame.field-0.0 _ c.from_residual-in_err-serve_frame.ensures.1;
       refused = refused;
-      full = heavier_out c.from_residual-in_err-serve_frame.result c.in_err-serve_frame.field-0.0 _ _ _ _ c.from_residual-in_err-serve_frame.ensures.1 (ap (λ (k : Kind). k.limit) inv.disk.same)
+      full = heavier_out c.from_residual-in_err-serve_frame.result c.in_err-serve_frame.field-0.0 _ _ _ _ _ _ _ c.from_residual-in_err-serve_frame.ensures.1
+          (λ t. (subst (λ (k : Kind). IsTrue k.tells) (sym inv.disk.same) t.0, t.1)) (ap (λ (k : Kind). k.limit) inv.disk.same)
           (served_on (g.S.Stepper.seen c.args.stepper.now).weight (g.S.Stepper.seen c.frames.stepper).weight (g.L.Link.taken c.args.link.now) (g.L.Link.taken c.frames.link) (g.L.Link.taken c.next.new.link) (g.L.Link.taken c.serve_frame.new.link) _ c.in-Some.frame c.in-Some.is inv.weight inv.link.more c.in_ok-found.ensures.size c.serve_frame.ensures.taken c.next.ensures.on.more) c.in_err-serve_frame.ensures.serves.full;
     }
 

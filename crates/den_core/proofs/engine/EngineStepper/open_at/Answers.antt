@@ -22,7 +22,7 @@ returns-in_err-raise-clause-makes g c =
       done = not_done c.from_residual.result c.in_err-raise.field-0.0 _ c.from_residual.ensures.1;
       refused = at_exit c.from_residual.result c.in_err-raise.field-0.0 _ c.from_residual.ensures.1 (record {
         cause = makes.refused.cause;
-        full = heavier _ _ _ _ c.in_err-raise.field-0.0 refl (omega arith) makes.refused.full;
+        full = heavier _ _ _ _ _ _ _ c.in_err-raise.field-0.0 (λ t. t) refl (omega arith) makes.refused.full;
         left = left_weaker c.in_err-raise.field-0.0 _ _ _ _ (λ joined. absurd (omega (arith, joined.some))) makes.refused.left;
       });
     }
@@ -46,7 +46,7 @@ returns-in_err-commit_and_trim-clause-makes g c =
       done = not_done c.from_residual-in_err-commit_and_trim.result c.in_err-commit_and_trim.field-0.0 _ c.from_residual-in_err-commit_and_trim.ensures.1;
       refused = at_exit c.from_residual-in_err-commit_and_trim.result c.in_err-commit_and_trim.field-0.0 _ c.from_residual-in_err-commit_and_trim.ensures.1 (record {
         cause = refusal_behind _ _ _ _ c.in_err-commit_and_trim.field-0.0 (λ rose. omega (arith, rose, raised.makes.goes_on.counts)) (ap (λ (k : Kind). k.limit) raised.makes.goes_on.same) makes.refused.cause;
-        full = heavier _ _ _ _ c.in_err-commit_and_trim.field-0.0 (ap (λ (k : Kind). k.limit) raised.makes.goes_on.same) (omega (arith, raised.makes.done.weight)) makes.refused.full;
+        full = heavier _ _ _ _ _ _ _ c.in_err-commit_and_trim.field-0.0 (λ t. (subst (λ k. IsTrue k.tells) (sym c.raise.ensures.makes.goes_on.same) t.0, t.1)) (ap (λ (k : Kind). k.limit) raised.makes.goes_on.same) (omega (arith, raised.makes.done.weight)) makes.refused.full;
         left = fails_behind c.in_err-commit_and_trim.field-0.0 _ _ _ (inl (c.in_err-commit_and_trim.ensures.still refl))
             (ap (λ m. term_of (g.T.MetaStore.shown m).value) c.commit_and_trim.ensures.meta ∙ ap term_of raised.raised);
       });

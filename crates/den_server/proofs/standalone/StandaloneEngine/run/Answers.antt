@@ -54,11 +54,11 @@ returns-in-Err-clause-refused g c =
     let L = g.L.Link in
     let first = c.args.disk.now in
     opening_ended (Rose (D.faults first) (D.faults c.open_folder.new.disk)) (Rose (L.faults c.args.link.now) (L.faults c.args.link.now)) (IsTrue (D.kind first).tells) (refusal_in (D.content first).reading)
-    (D.kind first).limit (files_size (D.content first).reading) (L.taken c.args.link.now - L.taken c.args.link.now) c.in-Err.error c.in-Err.ensures.refused
+    (D.content c.open_folder.new.disk).reading (D.kind first).limit (files_size (D.content first).reading) (L.taken c.args.link.now - L.taken c.args.link.now) c.in-Err.error c.in-Err.ensures.refused
 
 pub returns-in-Err-clause-turned_away : goal.returns-in-Err-clause-turned_away
 returns-in-Err-clause-turned_away g c = λ e told is.
-    ((record {}, away _ _ (refusal_in (g.D.Disk.content c.args.disk.now).reading) _ _ e c.in-Err.error told is c.in-Err.ensures.refused), c.open_folder.ensures.untouched e told is, refl, refl)
+    ((record {}, away _ _ (refusal_in (g.D.Disk.content c.args.disk.now).reading) _ _ _ e c.in-Err.error told is c.in-Err.ensures.refused), c.open_folder.ensures.untouched e told is, refl, refl)
 
 pub returns-in-Err-clause-goes_on : goal.returns-in-Err-clause-goes_on
 returns-in-Err-clause-goes_on g c =
@@ -124,10 +124,10 @@ returns-clause-refused g c = if_err_two c.run_from.result _ _ _
     let taken = L.taken c.run_from.new.link - L.taken c.args.link.now in
     let link_rose = Rose (L.faults c.args.link.now) (L.faults c.run_from.new.link) in
     let rose = Rose (D.faults c.open_folder.new.disk) (D.faults c.run_from.new.disk) in
-    serving_ended rose _ link_rose (IsTrue (D.kind c.args.disk.now).tells) (refusal_in (D.content c.args.disk.now).reading) (D.kind c.args.disk.now).limit weight (files_size (D.content c.args.disk.now).reading) taken e
-    (λ r. rose_then _ _ _ c.open_folder.ensures.disk.counts r) (λ told. c.in-Ok.ensures.accepted told) (λ told. c.in-Ok.ensures.weight told)
+    serving_ended rose _ link_rose (IsTrue (D.kind c.args.disk.now).tells) _ (refusal_in (D.content c.args.disk.now).reading) (D.content c.run_from.new.disk).reading (D.kind c.args.disk.now).limit weight (files_size (D.content c.args.disk.now).reading) taken e
+    (λ r. rose_then _ _ _ c.open_folder.ensures.disk.counts r) (λ told. (told, (tt, tt, tt))) (λ told. c.in-Ok.ensures.accepted told) (λ told. c.in-Ok.ensures.weight told)
     (subst (λ (k : Kind). IsServeRefusal rose link_rose k.limit e) c.open_folder.ensures.disk.same h)
-    (subst (λ (k : Kind). IsFullBy k.limit (run_weight weight taken) e) c.open_folder.ensures.disk.same full))
+    (subst (λ (k : Kind). IsFullBy (IsTrue k.tells × (Unit {0} × Unit {0} × Unit {0})) (D.content c.run_from.new.disk).reading k.limit (run_weight weight taken) e) c.open_folder.ensures.disk.same full))
     c.run_from.ensures.serves.refused c.run_from.ensures.serves.full
 
 pub returns-clause-turned_away : goal.returns-clause-turned_away
@@ -139,7 +139,7 @@ returns-clause-complete g c = λ told link_tells unrefused disk link small.
     let L = g.L.Link in
     let first = c.args.disk.now in
     completed (Rose (D.faults first) (D.faults c.run_from.new.disk)) (Rose (L.faults c.args.link.now) (L.faults c.run_from.new.link)) (IsTrue (D.kind first).tells) (refusal_in (D.content first).reading)
-    (D.kind first).limit (files_size (D.content first).reading) (L.taken c.run_from.new.link - L.taken c.args.link.now) (length (L.left c.args.link.now)) c.run_from.result told unrefused disk link
+    (D.content c.run_from.new.disk).reading (D.kind first).limit (files_size (D.content first).reading) (L.taken c.run_from.new.link - L.taken c.args.link.now) (length (L.left c.args.link.now)) c.run_from.result told unrefused disk link
     (omega (arith, c.run_from.ensures.counted link_tells)) small (returns-clause-refused g c)
 
 pub returns-clause-goes_on : goal.returns-clause-goes_on
