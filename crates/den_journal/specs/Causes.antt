@@ -55,7 +55,20 @@ pub record IsRoomOf (most needed : ℕ) : Type 0 where
   pub within : size ≤ most
   pub room : needed ≡ room_for size 0
 
--- where the disk is full: the room of no more bytes than this, and, where it is told what files hold, the room that the slot
+-- where the disk is full: exactly the room for a payload of this size behind so many bytes of regions
+abbrev pub IsFullAt : (end size : ℕ) → Error → Type 0
+IsFullAt end size (DiskFull needed limit) = needed ≡ room_for end size
+IsFullAt end size OutOfMemory = Unit {0}
+IsFullAt end size StorageIoError = Unit {0}
+IsFullAt end size LinkFault = Unit {0}
+IsFullAt end size (DataCorruption place offset) = Unit {0}
+IsFullAt end size FeatureNotEnabled = Unit {0}
+IsFullAt end size ProposeFailed = Unit {0}
+IsFullAt end size (UnorderedChunk index) = Unit {0}
+IsFullAt end size (Config place) = Unit {0}
+IsFullAt end size StateMachineError = Unit {0}
+
+-- where the disk is full: the room for at most so many bytes of regions and the gate behind them, and, where it is told what files hold, the room that the slot
 -- in use would need for a payload of one of some sizes, or the family's other slot for one of others
 abbrev pub IsFullFor : (told : Type 0) (family : Family) (files : Files) (most : ℕ) (adds drafts : ℕ → Type 0) → Error → Type 0
 IsFullFor told family files most adds drafts (DiskFull needed limit) = IsRoomOf most needed

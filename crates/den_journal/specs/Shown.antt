@@ -8,7 +8,7 @@ use Rattle.den_gate.specs.declared.gate.GateFile.{GateFile}
 use Rattle.den_gate.specs.Gate.{payloads, IsAtRest, IsCurrent}
 
 -- What is seen of one at a moment: its value; its weight, the bytes that its regions take, or would take when written anew,
--- at most; that it has not failed; and that its files lie on the disk as its last call left them.
+-- at most; that its calls may go on; and that its files lie on the disk as its last call left them.
 pub record Shown (V : Type 0) : Type 1 where
   pub value : V
   pub weight : ℕ

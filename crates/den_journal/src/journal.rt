@@ -5,7 +5,7 @@ ghost use Rattle.den_gate.specs.Gate.{payloads};
 ghost use Rattle.den_gate.specs.Draft.{other_slot};
 ghost use Rattle.den_codec.specs.declared.error.Error.TheVariants.{StorageIoError};
 ghost use Rattle.den_model.specs.Sizes.{family_size};
-ghost use Rattle.den_journal.specs.Causes.{IsOfDisk};
+ghost use Rattle.den_journal.specs.Causes.{IsFullAt, IsOfDisk};
 ghost use Rattle.den_journal.specs.Shown.{rewrite_size};
 ghost use Rattle.den_journal.specs.Writes.{Opens, Stands, Syncs, Writes};
 
@@ -23,6 +23,7 @@ use std::alloc::Global;
 pub struct Journal<F> {
     gate: GateFile,
     held: F,
+    // A draft is being made, or the value lacks what the files have.
     failed: bool,
     alloc: Global,
     // The word of the last region: its memory is used again.
@@ -60,6 +61,7 @@ impl<F: Folded> Journal<F> {
         ensures appended { OnOk result (IsTrue (D.kind disk.old).tells →
             payloads self.new.gate (D.content disk.new).reading ≡ payloads self.old.gate (D.content disk.old).reading ++ F.Region.word region ∷ []) }
         ensures slot { self.new.gate.slot ≡ self.old.gate.slot }
+        ensures room { IfErr result (IsFullAt self.old.gate.end (length (F.Region.word region))) }
         ensures same { IfErr result (λ e. IsOfDisk e → F.value self.new.held ≡ F.value self.old.held) }
     {
         self.word.clear();
@@ -180,7 +182,8 @@ impl<F: Folded> Journal<F> {
         &self.held
     }
 
-    /// Whether a refusal of the disk left it of no more use. It is opened anew then.
+    /// Whether it is of no use: while a draft is made, and for good once a call that writes was refused, but for want of
+    /// memory before its write. It is opened anew then.
     pub fn is_failed(&self) -> bool
         ensures { (result ≡ false) ↔ (journal_shown F.Folded self.now).ready }
     {
