@@ -16,7 +16,7 @@ use Rattle.den_model.specs.Words.{FitsHardState, FitsLogRegion}
 use Rattle.den_model.proofs.Numbers.{length_u64_word}
 use Rattle.den_journal.specs.Drafts.{anew_words}
 use Rattle.den_journal.specs.Shown.{rewrite_size}
-use Rattle.den_store.specs.Folds.{append_size, log_again, logs_fold, state_again, states_fold}
+use Rattle.den_store.specs.Folds.{append_size, log_again, logs_fold, purge_size, state_again, states_fold}
 use Rattle.den_store.specs.Lookup.{rest_region}
 use Rattle.den_store.specs.Order.{IsInOrder}
 use Rattle.den_store.proofs.HeldLogs.{purged}
@@ -66,9 +66,6 @@ state_gives h fits = states_fold.goes_on None (Some h) (record { offset = 0; pay
 
 open_size : (p : List ℕ) (ps : List (List ℕ)) → length (open_regions (p ∷ ps)) ≡ 9 + length p + length (open_regions ps)
 open_size p ps = omega (arith, length-append (open_region p) (open_regions ps), length-append (u64_word (length p)) p, length_u64_word (length p))
-
-purge_size : (index term : ℕ) → length (log_region_word (Purge index term)) ≡ 17
-purge_size index term = omega (arith, length-append (u64_word index) (u64_word term), length_u64_word index, length_u64_word term)
 
 anew_size : (index term : ℕ) (es : List LogEntry) → length (open_regions (anew_words log_region_word (Purge index term) (rest_region es))) ≤ rewrite_size (entries_size es)
 anew_size index term [] = omega (arith, open_size (log_region_word (Purge index term)) [], purge_size index term)

@@ -1,12 +1,15 @@
 -- A log store over a journal.
-use Rattle.std.specs.Prelude.{ℕ}
+use Rattle.std.proofs.Common.{ℕ, ◌≤◌, arith}
 use Rattle.den_disk.specs.declared.place.Family.TheVariants.{Log as log_family}
 use Rattle.den_disk.specs.Place.{place_number}
+use Rattle.den_model.specs.declared.log_id.LogId.{LogId}
 use Rattle.den_model.specs.Log.{Log, empty_log, log_from}
 use Rattle.den_model.specs.Sizes.{entries_size}
 use Rattle.den_journal.specs.Lies.{Lies, gives_own, gives_hold, held_own}
 use Rattle.den_journal.specs.Shown.{Held, Shown, shown_of, held_in}
 use Rattle.den_store.specs.declared.log_store.FileLogStore.{FileLogStore}
+use Rattle.den_store.specs.Changes.{purge_change}
+use Rattle.den_store.specs.Folds.{purge_light}
 use Rattle.den_store.specs.Held.{log_of}
 
 -- its log, and what else is seen of it
@@ -27,3 +30,6 @@ log_lies = record {
   holds_own = held_own log_family (log_from empty_log);
   rests_hold = λ told s c files ready. gives_hold log_family (log_from empty_log) s.journal.gate (log_of s.journal.held) c files;
 }
+
+pub log_light : (s : FileLogStore) (cutoff : LogId) (n : ℕ) → (purge_change (log_shown s).value cutoff).drafts n → n ≤ (log_shown s).weight
+log_light s cutoff n is = omega (arith, purge_light (log_of s.journal.held) cutoff n is)

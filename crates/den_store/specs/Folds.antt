@@ -7,18 +7,22 @@ use Rattle.std.proofs.lemmas.Bool.{cond-true, cond-false, cases_Bool}
 use Rattle.den_model.specs.declared.region.LogRegion.{LogRegion}
 use Rattle.den_model.specs.declared.region.LogRegion.TheVariants.{Append, Truncate, Purge, Replace, Reset}
 use Rattle.den_model.specs.declared.log_id.HardState.{HardState}
+use Rattle.den_model.specs.declared.log_id.LogId.{LogId}
 use Rattle.den_model.specs.Entries.{LogEntry}
 use Rattle.den_model.specs.Regions.{Region}
-use Rattle.den_model.specs.Log.{Log, floor, below, is_lawful, changed, replaced, log_from, log_after, log_after_payload}
+use Rattle.den_model.specs.Log.{Log, floor, above, below, is_lawful, changed, replaced, log_from, log_after, log_after_payload}
 use Rattle.den_model.specs.Spelling.{u64_word, entry_word, log_region_word, hard_state_word}
 use Rattle.den_model.specs.Words.{FitsLogRegion, FitsHardState}
 use Rattle.den_model.proofs.RoundTrips.{log_region_again, hard_state_again}
 use Rattle.den_model.specs.Image.{hard_state_from}
 use Rattle.den_model.specs.Sizes.{entries_size, store_rise}
 use Rattle.den_model.specs.Reading.{log_region_in, hard_state_in}
+use Rattle.den_journal.specs.Drafts.{anew_words, IsSizeOf}
 use Rattle.den_journal.specs.Folding.{Folds}
+use Rattle.den_journal.specs.Shown.{rewrite_size}
+use Rattle.den_store.specs.Changes.{purge_words}
 use Rattle.den_store.specs.LastState.{state_after}
-use Rattle.den_store.specs.Lookup.{entries_of}
+use Rattle.den_store.specs.Lookup.{entries_of, rest_region}
 
 -- ---- the log
 
@@ -81,11 +85,25 @@ changed_size l (Replace r) =
     omega (arith, replaced_size l r.from r.entries, length-append (u64_word r.from) (u64_word (length r.entries) ++ flat_map entry_word r.entries), length-append (u64_word (length r.entries)) (flat_map entry_word r.entries), words_size r.entries)
 changed_size l Reset = omega arith
 
+pub purge_size : (index term : ℕ) → length (log_region_word (Purge index term)) ≡ 17
+purge_size index term = omega (arith, length-append (u64_word index) (u64_word term), length_u64_word index, length_u64_word term)
+
+anew_light : (index term : ℕ) (es : List LogEntry) (n : ℕ) → IsSizeOf (anew_words log_region_word (Purge index term) (rest_region es)) n → n ≤ rewrite_size (entries_size es)
+anew_light index term [] n (inl is) = omega (arith, is, purge_size index term)
+anew_light index term [] n (inr none) = absurd none
+anew_light index term (e ∷ es) n (inl is) = omega (arith, is, purge_size index term)
+anew_light index term (e ∷ es) n (inr (inl is)) = omega (arith, is, append_size (e ∷ es))
+anew_light index term (e ∷ es) n (inr (inr none)) = absurd none
+
+-- no payload of a purge is larger than what the log takes when it is written anew
+pub purge_light : (l : Log) (cutoff : LogId) (n : ℕ) → IsSizeOf (purge_words l cutoff) n → n ≤ rewrite_size (entries_size l.entries)
+purge_light l cutoff n is = omega (arith, anew_light cutoff.index cutoff.term (above cutoff.index l.entries) n is, size_filter (λ e. nat_lt cutoff.index e.index) l.entries)
+
 -- twice a region is no larger than what a store that is handed its entries may write
 pub log_rises : (r : LogRegion) → 9 + 2 * length (log_region_word r) ≤ store_rise (entries_size (entries_of r))
 log_rises (Append es) = omega (arith, append_size es)
 log_rises (Truncate from) = omega (arith, length_u64_word from)
-log_rises (Purge index term) = omega (arith, length-append (u64_word index) (u64_word term), length_u64_word index, length_u64_word term)
+log_rises (Purge index term) = omega (arith, purge_size index term)
 log_rises (Replace r) =
     omega (arith, length-append (u64_word r.from) (u64_word (length r.entries) ++ flat_map entry_word r.entries), length-append (u64_word (length r.entries)) (flat_map entry_word r.entries), words_size r.entries, length_u64_word r.from, length_u64_word (length r.entries))
 log_rises Reset = omega arith

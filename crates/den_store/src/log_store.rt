@@ -7,7 +7,7 @@ ghost use Rattle.den_model.specs.Sizes.{entries_size, family_size};
 ghost use Rattle.den_model.specs.Words.{FitsLogRegion};
 ghost use Rattle.den_model.specs.declared.region.LogRegion.TheVariants.{Purge};
 ghost use Rattle.den_journal.specs.Writes.{Opens};
-ghost use Rattle.den_store.specs.FileLog.{log_shown, file_place, log_held, log_lies};
+ghost use Rattle.den_store.specs.FileLog.{log_shown, file_place, log_held, log_light, log_lies};
 ghost use Rattle.den_store.specs.Held.{log_of};
 
 use crate::LogStore;
@@ -59,6 +59,8 @@ impl<D: Disk> LogStore<D> for FileLogStore {
     ghost place = { file_place };
 
     ghost in_order = { λ s. s.journal.held.order };
+
+    ghost light = { log_light };
 
     ghost lies = { log_lies };
 

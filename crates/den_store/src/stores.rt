@@ -7,6 +7,7 @@ ghost use Rattle.den_model.specs.Entries.{rise_from};
 ghost use Rattle.den_model.specs.Log.{Log, between, floor, last_index};
 ghost use Rattle.den_model.specs.declared.region.LogRegion.TheVariants.{Append, Replace, Reset, Truncate};
 ghost use Rattle.den_model.specs.declared.log_id.HardState.{HardState};
+ghost use Rattle.den_model.specs.declared.log_id.LogId.{LogId};
 ghost use Rattle.den_journal.specs.Causes.{IsOfDisk};
 ghost use Rattle.den_journal.specs.Lies.{Lies};
 ghost use Rattle.den_journal.specs.Shown.{Held, Shown};
@@ -118,6 +119,9 @@ pub trait LogStore<D: Disk>: Drop {
 
     /// Its entries rise above its boundary.
     ghost in_order: { (s : Self) → IsInOrder (shown s).value };
+
+    /// No payload that a purge writes is larger than the store's weight.
+    ghost light: { (s : Self) (cutoff : LogId) (n : ℕ) → (purge_change (shown s).value cutoff).drafts n → n ≤ (shown s).weight };
 
     /// Only its own files count, and they give its log, where it tells what they give, whatever a crash does to what is
     /// pending.
