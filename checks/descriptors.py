@@ -26,22 +26,32 @@ def entry_regions(index, term, pair):
 
 
 def files_after(runs):
-    """The files after runs of puts on an empty folder, the moments in the log zero, and where those stand."""
-    log = meta = state = b""
+    """The files with bytes after runs of puts on an empty folder, the moments in the log zero, and where those stand."""
+    log = state = b""
     moments, index = [], 0
     for term, pairs in enumerate(runs, 1):
-        meta += region(number(term) + b"\x01" + bytes([0, 0, 0, 1]) + number(term))
         for pair in [None, *pairs]:
             index += 1
             moments.append(slice(len(log) + MOMENT.start, len(log) + MOMENT.stop))
             in_log, in_state = entry_regions(index, term, pair)
             log, state = log + in_log, state + in_state
-    return {name: data.ljust(ROOM, b"\0") for name, data in [("log.a", log), ("meta.a", meta), ("state.a", state)]}, moments
+    return {"log.a": slot(log), "state.a": slot(state), **meta_files(len(runs))}, moments
+
+
+def slot(regions):
+    return regions.ljust(ROOM, b"\0")
+
+
+def meta_files(term):
+    """Each opening writes the hard state anew in its family's other slot, so behind the first one that is slot b."""
+    name = "meta.b" if term % 2 else "meta.a"
+    vote = b"\x01" + bytes([0, 0, 0, 1]) + number(term)
+    return {"meta.head": bytes([term % 2]), name: slot(region(number(term) + vote))}
 
 
 def check_files(what, folder, runs):
     wanted, moments = files_after(runs)
-    found = files_of(folder)
+    found = {name: data for name, data in files_of(folder).items() if data}
     log = bytearray(found.get("log.a", b""))
     for at in moments:
         log[at] = bytes(8)

@@ -1,7 +1,10 @@
 //! The server: frames in, bytes out, and the bytes of the files, as docs/FORMATS.md gives them.
-use den_codec::{Error, RaftNodeConfig, SoloConfig};
+use den_codec::{Error, LogId, RaftNodeConfig, SoloConfig};
 use den_disk::{Clock, Disk, DiskFault, Family, Link, ListClock, MemDisk, MemLink, Part, Place};
+use den_gate::{GateError, GateFile};
+use den_model::Blob;
 use den_server::StandaloneEngine;
+use den_store::{FileLogStore, LogStore};
 use std::alloc::Global;
 use std::test::Fail;
 
@@ -83,11 +86,6 @@ const LOG: Place = Place {
     part: Part::A,
 };
 
-const META_SLOT: Place = Place {
-    family: Family::Meta,
-    part: Part::A,
-};
-
 const STATE: Place = Place {
     family: Family::State,
     part: Part::A,
@@ -103,24 +101,48 @@ enum Ending {
     Otherwise,
 }
 
-// The regions in the slots a of log, hard state and state.
+// The files of the hard state behind a rewrite: the head, the slot that it names with one region, and the empty one.
+#[derive(Clone, Copy)]
+struct Turn {
+    head: &'static [u8],
+    used: Part,
+    other: Part,
+    regions: Pieces,
+}
+
+// Those behind the first opening of a folder, and behind the second.
+const FIRST: Turn = Turn {
+    head: b"\x01",
+    used: Part::B,
+    other: Part::A,
+    regions: &[META],
+};
+
+const SECOND: Turn = Turn {
+    head: b"\0",
+    used: Part::A,
+    other: Part::B,
+    regions: &[META_OF_SECOND],
+};
+
+// The regions in the slots a of log and state, and the files of the hard state.
 #[derive(Clone, Copy)]
 struct Files {
     log: Pieces,
-    meta: Pieces,
+    meta: Turn,
     state: Pieces,
 }
 
 // Those of the opening alone, and of the opening and the put.
 const OPENING: Files = Files {
     log: &[LOG_OF_NOOP],
-    meta: &[META],
+    meta: FIRST,
     state: &[STATE_OF_NOOP],
 };
 
 const WITH_PUT: Files = Files {
     log: &[LOG_OF_NOOP, LOG_OF_PUT],
-    meta: &[META],
+    meta: FIRST,
     state: &[STATE_OF_NOOP, STATE_OF_PUT],
 };
 
@@ -189,17 +211,31 @@ fn is_slot(file: &[u8], pieces: Pieces) -> bool {
     }
 }
 
-// Whether the nine files beside the slots a of log, hard state and state are empty.
+fn file(disk: &MemDisk, family: Family, part: Part) -> &[u8] {
+    disk.get(Place { family, part })
+}
+
+// Whether the files of the hard state are these.
+fn holds_turn(disk: &MemDisk, turn: Turn) -> bool {
+    file(disk, Family::Meta, Part::Head) == turn.head
+        && is_slot(file(disk, Family::Meta, turn.used), turn.regions)
+        && file(disk, Family::Meta, turn.other).is_empty()
+}
+
+// Whether no file of the hard state has a byte.
+fn has_no_hard_state(disk: &MemDisk) -> bool {
+    file(disk, Family::Meta, Part::Head).is_empty()
+        && file(disk, Family::Meta, Part::A).is_empty()
+        && file(disk, Family::Meta, Part::B).is_empty()
+}
+
+// Whether the seven files beside those of the hard state and the slots a of log and state are empty: neither log nor state
+// was written anew.
 fn others_are_empty(disk: &MemDisk) -> bool {
-    let mut all = disk
-        .get(Place {
-            family: Family::Snapshot,
-            part: Part::A,
-        })
-        .is_empty();
-    for family in [Family::Log, Family::Meta, Family::State, Family::Snapshot] {
+    let mut all = file(disk, Family::Snapshot, Part::A).is_empty();
+    for family in [Family::Log, Family::State, Family::Snapshot] {
         for part in [Part::Head, Part::B] {
-            all = all && disk.get(Place { family, part }).is_empty();
+            all = all && file(disk, family, part).is_empty();
         }
     }
     all
@@ -208,7 +244,7 @@ fn others_are_empty(disk: &MemDisk) -> bool {
 // Whether the files are these.
 fn holds(disk: &MemDisk, files: Files) -> bool {
     is_slot(disk.get(LOG), files.log)
-        && is_slot(disk.get(META_SLOT), files.meta)
+        && holds_turn(disk, files.meta)
         && is_slot(disk.get(STATE), files.state)
         && others_are_empty(disk)
 }
@@ -216,7 +252,7 @@ fn holds(disk: &MemDisk, files: Files) -> bool {
 // Whether the log's slot a has these bytes, and the other eleven files none.
 fn holds_alone(disk: &MemDisk, log: &[u8]) -> bool {
     disk.get(LOG) == log
-        && disk.get(META_SLOT).is_empty()
+        && has_no_hard_state(disk)
         && disk.get(STATE).is_empty()
         && others_are_empty(disk)
 }
@@ -310,7 +346,7 @@ fn opens_an_empty_value_anew(rt: HostRuntime) -> Result<(), Fail> {
     assert!(rt; answers(rt.alloc(), &mut disk, &[READ], &[EMPTY_PAIR])?);
     let files = Files {
         log: &[LOG_OF_NOOP, LOG_OF_EMPTY, LOG_OF_SECOND],
-        meta: &[META, META_OF_SECOND],
+        meta: SECOND,
         state: &[STATE_OF_NOOP, STATE_OF_EMPTY, STATE_OF_SECOND],
     };
     assert!(rt; holds(&disk, files));
@@ -336,7 +372,7 @@ fn opens_a_torn_log_anew(rt: HostRuntime) -> Result<(), Fail> {
     assert!(rt; answers(rt.alloc(), &mut disk, &[], &[])?);
     let files = Files {
         log: &[LOG_OF_SECOND, LOG_OF_CLOSED_PUT],
-        meta: &[META, META_OF_SECOND],
+        meta: SECOND,
         state: &[STATE_OF_NOOP, STATE_OF_PUT, STATE_OF_SECOND],
     };
     assert!(rt; holds(&disk, files));
@@ -405,11 +441,11 @@ fn survives_a_stop_anywhere(rt: HostRuntime) -> Result<(), Fail> {
     Ok(())
 }
 
-// How many syncs a run over this input makes.
+// How many syncs a run over this input makes, in which neither log nor state is written anew.
 fn syncs_of(alloc: Global, input: Pieces) -> Result<u64, Fail> {
     let mut disk = MemDisk::new(alloc);
     let mut link = link_of(alloc, input, &[])?;
-    if run(alloc, &mut disk, &mut link)? != Ending::Well {
+    if run(alloc, &mut disk, &mut link)? != Ending::Well || !others_are_empty(&disk) {
         return Err("a run that ends otherwise")?;
     }
     Ok(disk.syncs())
@@ -424,5 +460,108 @@ fn syncs(rt: HostRuntime) -> Result<(), Fail> {
         let made = syncs_of(rt.alloc(), input)?;
         assert!(rt; made.checked_sub(opening) == Some(more), "of {input:?}");
     }
+    Ok(())
+}
+
+// The payloads of a checkpoint of a = b at the mark (1000, 1), and those of a record of the put, before and behind its index.
+const BEGIN: &[u8] = b"\x01\0\0\0\0\0\0\x03\xe8\0\0\0\0\0\0\0\x01";
+
+const PAIRS: &[u8] =
+    b"\x02\0\0\0\0\0\0\0\x01\0\0\0\0\0\0\0\x01a\0\0\0\0\0\0\0\x01b\0\0\0\0\0\0\0\x01\0\0\0\0\0\0\0\0";
+
+const RECORD_FRONT: &[u8] = b"\x03\0\0\0\0\0\0\0\x01";
+
+const RECORD_REST: &[u8] =
+    b"\0\0\0\0\0\0\0\x01\x01\0\0\0\0\0\0\0\x01a\0\0\0\0\0\0\0\x01b\0\0\0\0\0\0\0\0";
+
+// The put, so many times.
+fn puts(alloc: Global, count: u64) -> Result<MemLink, Fail> {
+    let mut input = Vec::new(alloc);
+    for _ in 0..count {
+        input.extend_from_slice(PUT)?;
+    }
+    Ok(MemLink::new(alloc, input, Vec::new(alloc)))
+}
+
+// What follows so many answers that a put is written, if they stand in front.
+fn behind_written(sent: &[u8], count: u64) -> Option<&[u8]> {
+    let mut rest = sent;
+    for _ in 0..count {
+        rest = cut(rest, WRITTEN)?;
+    }
+    Some(rest)
+}
+
+// Whether puts, so many of them, are all answered as written.
+fn writes(alloc: Global, disk: &mut MemDisk, count: u64) -> Result<bool, Fail> {
+    let mut link = puts(alloc, count)?;
+    let ended = run(alloc, disk, &mut link)?;
+    let rest = behind_written(link.sent(), count);
+    Ok(ended == Ending::Well && matches!(rest, Some(bytes) if bytes.is_empty()))
+}
+
+// Whether a log is purged up to (1001, 1), and has the 100 entries behind it.
+fn is_purged<D: Disk, G: LogStore<D>>(log: &G) -> Result<bool, Fail> {
+    let entries = log.get_entries(0, u64::MAX)?;
+    let boundary = LogId {
+        index: 1001,
+        term: 1,
+    };
+    Ok(
+        log.load_purge_boundary() == Some(boundary)
+            && log.last_index() == 1101
+            && entries.as_slice().len() == 100,
+    )
+}
+
+fn opens_purged<D: Disk>(alloc: Global, disk: &mut D) -> Result<bool, Fail> {
+    let log = FileLogStore::new(alloc, disk)?;
+    is_purged::<D, _>(&log)
+}
+
+fn behind_index(payload: &[u8], index: u64) -> Option<&[u8]> {
+    cut(cut(payload, RECORD_FRONT)?, &index.to_be_bytes())
+}
+
+// Whether these are records of the put, one each, of the indices from 1001 up to 1101.
+fn are_records(payloads: &[Blob]) -> bool {
+    let mut all = payloads.len() == 101;
+    for (payload, index) in payloads.iter().zip(1001..1102) {
+        let rest = behind_index(payload.as_slice(), index);
+        all = all && matches!(rest, Some(bytes) if bytes == RECORD_REST);
+    }
+    all
+}
+
+// Whether these are the checkpoint, and those records behind it.
+fn are_checkpointed(payloads: &[Blob]) -> bool {
+    match payloads {
+        [begin, pairs, records @ ..] => {
+            begin.as_slice() == BEGIN && pairs.as_slice() == PAIRS && are_records(records)
+        }
+        _ => false,
+    }
+}
+
+fn reads_checkpointed<D: Disk>(alloc: Global, disk: &mut D) -> Result<bool, GateError> {
+    let gate = GateFile::load(Family::State, disk)?;
+    let payloads = gate.regions(alloc, disk)?;
+    Ok(are_checkpointed(payloads.as_slice()))
+}
+
+// Whether a family was written anew once: its slot b is in use, and its slot a is empty.
+fn is_turned(disk: &MemDisk, family: Family) -> bool {
+    file(disk, family, Part::Head) == FIRST.head && file(disk, family, Part::A).is_empty()
+}
+
+// The opening takes index 1. Behind index 1000 the state has 1,000 records, and is written anew; behind index 1001 the log
+// has 1,001 entries, and is purged.
+#[test]
+fn eleven_hundred_puts(rt: HostRuntime) -> Result<(), Fail> {
+    let mut disk = MemDisk::new(rt.alloc());
+    assert!(rt; writes(rt.alloc(), &mut disk, 1100)?);
+    assert!(rt; is_turned(&disk, Family::Log) && is_turned(&disk, Family::State));
+    assert!(rt; reads_checkpointed(rt.alloc(), &mut disk)?);
+    assert!(rt; opens_purged(rt.alloc(), &mut disk)?);
     Ok(())
 }
