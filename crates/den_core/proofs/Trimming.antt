@@ -1,5 +1,5 @@
 -- A log whose entries the map has all: how long it is, and what a purge up to the map's mark leaves of it.
-use Rattle.std.proofs.Common.{◌≡◌, ℕ, ◌≤◌, ◌<◌, ◌+◌, ◌-◌, true, false, List, [], ◌∷◌, ◌++◌, length, Some, cond, nat_lt, if◌then◌else◌, inl, inr, refl, sym, ◌∙◌, ap, subst, arith}
+use Rattle.std.proofs.Common.{◌≡◌, ℕ, ◌≤◌, ◌<◌, ◌+◌, ◌-◌, true, false, List, [], ◌∷◌, ◌++◌, length, Some, cond, nat_lt, if◌then◌else◌, inl, inr, refl, sym, ◌∙◌, ap, subst, arith, length-append}
 use Rattle.std.specs.List.{All}
 use Rattle.std.proofs.lemmas.Bool.{and_parts, cases_lt, le-ltb, lt-ltb, ltb-false, ltb-true}
 use Rattle.std.proofs.lemmas.List.Elements.{All-nil, All-cons}
@@ -9,9 +9,15 @@ use Rattle.den_model.specs.Entries.{LogEntry, rise_above}
 use Rattle.den_model.specs.Grown.{HasTermOf, IsPurgedUpTo}
 use Rattle.den_model.specs.Log.{Log, above, below, changed, floor, last_index, last_of}
 use Rattle.den_model.specs.MapState.{MapState, map_applied}
+use Rattle.den_model.specs.Spelling.{log_region_word, u64_word}
+use Rattle.den_model.proofs.Numbers.{length_u64_word}
+use Rattle.den_journal.specs.Drafts.{anew_words, IsSizeOf}
+use Rattle.den_store.specs.Changes.{purge_words}
+use Rattle.den_store.specs.Lookup.{rest_region}
 use Rattle.den_store.specs.Order.{IsInOrder}
 use Rattle.den_core.specs.Parts.{IsCaughtUp}
 use Rattle.den_core.proofs.Durables.{AllUpTo, up_to}
+use Rattle.den_core.proofs.Weighing.{one_size}
 
 -- ---- how many entries there are
 
@@ -63,6 +69,13 @@ module _ (l : Log) (s : MapState) (caught : IsCaughtUp l s) (over : floor l < s.
 
     pub trimmed_is : HasTermOf l s.mark → IsPurgedUpTo s.mark.index l new
     trimmed_is ends = inr (s.mark, over, omega arith, ends, is)
+
+-- the payload of a purge up to the mark: no entry is left
+pub trimmed_words : (l : Log) (s : MapState) → IsCaughtUp l s → (cutoff : LogId) → cutoff ≡ s.mark → (n : ℕ) → IsSizeOf (purge_words l cutoff) n → n ≤ 17
+trimmed_words l s caught cutoff is n size =
+    let none : above cutoff.index l.entries ≡ [] = ap (λ (i : LogId). above i.index l.entries) is ∙ caught.applied in
+    let one = one_size (log_region_word (Purge cutoff.index cutoff.term)) n (subst (λ (es : List LogEntry). IsSizeOf (anew_words log_region_word (Purge cutoff.index cutoff.term) (rest_region es)) n) none size) in
+    omega (arith, one, length-append (u64_word cutoff.index) (u64_word cutoff.term), length_u64_word cutoff.index, length_u64_word cutoff.term)
 
 -- ---- an entry that was applied
 

@@ -9,6 +9,7 @@ use Rattle.den_disk.specs.Files.{Files}
 use Rattle.den_gate.specs.Draft.{other_slot}
 use Rattle.den_model.specs.Image.{slot_of}
 use Rattle.den_journal.specs.Causes.{IsFullFor, IsTooShort}
+use Rattle.den_journal.specs.Drafts.{IsSizeOf}
 use Rattle.den_core.specs.Full.{IsFullBy, IsSlotTooShort}
 use Rattle.den_codec.specs.declared.error.Error.{Error}
 use Rattle.den_codec.specs.declared.error.Error.TheVariants.{OutOfMemory, StorageIoError, DiskFull, LinkFault, DataCorruption, FeatureNotEnabled, ProposeFailed, UnorderedChunk, Config, StateMachineError}
@@ -104,6 +105,11 @@ full_by told family files most weight adds drafts (Config place) served added dr
 full_by told family files most weight adds drafts StateMachineError served added drafted full heavy = tt
 
 -- ---- words
+
+-- of one payload
+pub one_size : (p : List ℕ) (n : ℕ) → IsSizeOf (p ∷ []) n → n ≡ length p
+one_size p n (inl is) = is
+one_size p n (inr never) = absurd never
 
 -- index, term and moment, and the command
 entry_length : (e : LogEntry) → length (entry_word e) ≡ 24 + length (command_word e.command)

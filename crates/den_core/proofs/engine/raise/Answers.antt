@@ -4,7 +4,7 @@ use Rattle.den_model.specs.MapState.{part_of}
 use Rattle.den_journal.proofs.Moving.{old_or_new}
 use Rattle.den_core.specs.Joined.{durable_is}
 use Rattle.den_core.proofs.Spared.{gives_now, spared, apart_own, meta_moves, log_meta, state_meta, snapshot_meta, spares_by}
-use Rattle.den_core.proofs.Weighing.{full_by, hard_state_length, heavier}
+use Rattle.den_core.proofs.Weighing.{one_size, full_by, hard_state_length, heavier}
 use Rattle.den_core.specs.Parts.{durable_of, kv_of}
 use Rattle.den_core.proofs.Refusing.{fails_or_stays, if_err_weaker, untouched_only}
 use Rattle.den_core.proofs.engine.raise.Goals as goal
@@ -49,7 +49,7 @@ returns-clause-makes g c =
       }) writes.done;
       refused = if_err_weaker c.save_hard_state.result _ _ (λ e refused. record {
         cause = refused.cause;
-        full = heavier _ _ _ _ _ _ _ e (λ t. (t.0, t.1.1)) refl (omega (arith, hard_state_length (record { current_term = c.current_term-term.result + 1; voted_for = c.vote.result }))) (full_by _ _ _ _ _ _ _ e (λ is. snapshot_meta (sym is)) (λ n is. omega (arith, is)) (λ n never. absurd never) refused.full refused.heavy);
+        full = heavier _ _ _ _ _ _ _ e (λ t. (t.0, t.1.1)) refl (omega (arith, hard_state_length (record { current_term = c.current_term-term.result + 1; voted_for = c.vote.result }))) (full_by _ _ _ _ _ _ _ e (λ is. snapshot_meta (sym is)) (λ n never. absurd never) (λ n size. let small = one_size _ n size in omega (arith, small)) refused.full refused.heavy);
         left = fails_or_stays _ _ e _ _ _ refused.cause
             (λ memory.
             let same = untouched_only (λ lost. lost.may_be) (refused.untouched memory) in

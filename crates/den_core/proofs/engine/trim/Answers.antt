@@ -4,14 +4,13 @@ use Rattle.den_model.specs.declared.log_id.LogId.{LogId}
 use Rattle.den_model.specs.declared.region.LogRegion.TheVariants.{Purge}
 use Rattle.den_model.specs.Log.{changed, floor}
 use Rattle.den_state.specs.Machine.{AtRest, rest_hold, rest_own}
-use Rattle.den_store.specs.Folds.{log_rises}
 use Rattle.den_core.specs.Joined.{durable_is}
 use Rattle.den_core.specs.Parts.{kv_of}
 use Rattle.den_core.proofs.GoesOn.{disk_same}
 use Rattle.den_core.proofs.Quiet.{stays}
 use Rattle.den_core.proofs.Refusing.{at_exit, fails_or_stays, not_done, untouched_only}
 use Rattle.den_core.proofs.Spared.{all_at_rest, apart_own, gives_now, log_moves, meta_log, same_gives, snapshot_log, spared, spares_by, spares_still, state_log}
-use Rattle.den_core.proofs.Trimming.{few_entries, mark_above, trimmed_caught_up, trimmed_is, trimmed_short}
+use Rattle.den_core.proofs.Trimming.{few_entries, mark_above, trimmed_caught_up, trimmed_is, trimmed_short, trimmed_words}
 use Rattle.den_core.proofs.Weighing.{full_by, heavier}
 use Rattle.den_core.proofs.engine.trim.Goals as goal
 
@@ -74,7 +73,7 @@ returns-in_err-purge-clause-makes g c =
       refused = at_exit c.from_residual.result c.in_err-purge.field-0.0 _ c.from_residual.ensures.1 (record {
         cause = writes.refused.cause;
         full = heavier _ _ _ _ _ _ _ c.in_err-purge.field-0.0 (λ t. (t.0, t.1.0)) refl (omega arith)
-            (full_by _ _ _ _ _ _ _ c.in_err-purge.field-0.0 (λ is. snapshot_log (sym is)) (λ n is. omega (arith, is, log_rises (Purge c.last_applied-applied.result.index c.last_applied-applied.result.term))) (λ n never. absurd never) writes.refused.full writes.refused.heavy);
+            (full_by _ _ _ _ _ _ _ c.in_err-purge.field-0.0 (λ is. snapshot_log (sym is)) (λ n never. absurd never) (λ n size. let small = trimmed_words l s ready.caught_up _ c.last_applied-applied.ensures n size in omega (arith, small)) writes.refused.full writes.refused.heavy);
         left = fails_or_stays _ _ c.in_err-purge.field-0.0 _ _ _ writes.refused.cause
             (λ memory. inr (inl refl, (untouched_only (λ lost. lost.may_be) (writes.refused.untouched memory)).same_value)) (λ disk. inl refl);
       });
