@@ -15,6 +15,9 @@
 //! 4. No byte of a reply is sent before its step is on the disk: `survives` of `serve`, which ties bytes sent by a
 //!    moment to the images at that moment. `early_is_refused` says that a server that sends first would not meet it.
 //! 5. The frames are those of the input, however it is cut: `found` of `FrameReader::next`.
+//! 6. Behind each step the log holds no more entries than the engine was told: `trim` purges it up to the map's mark, which
+//!    moves nothing that the files stand for; `short` of `Stepper` and of `Serves`.
+//! 7. A full disk is told the room that one slot would need: `IsFullBy` in specs/Full.antt.
 #![tactic(auto)]
 
 mod applying;
