@@ -11,7 +11,9 @@ from serving import WRITTEN, Server, as_nobody, bodies, fail, files_of, owned, p
 KILLS, FOLDERS, PUTS = 50, 5, 1000
 VALUE = b"v" * 2000
 # A checkpoint and a purge come once in a thousand puts: these kills come where they are due.
-FEW, REWRITES, BEFORE, BEHIND = 8, 40, 985, 40
+FEW, REWRITES, BEFORE, BEHIND = 8, 120, 985, 40
+# The thousandth record is that of put 13 behind them, since each of the two openings has one; the log is too long behind put 14.
+DUE = [11, 12, 12, 12, 13, 13, 13, 14]
 
 
 def plain():
@@ -34,12 +36,12 @@ def count_of(answers):
     return len(answers)
 
 
-def stopped(program, folder, frames, answers, how):
-    """How many of the frames were answered by a run that a signal stops behind so many answers."""
+def stopped(program, folder, frames, answers, how, pause=0.02):
+    """How many of the frames were answered by a run that a signal stops behind so many answers, or within the pause."""
     server = Server(program, folder, plain)
     server.feed(frames)
     server.read_on(answers)
-    time.sleep(0 if answers else random.random() / 50)
+    time.sleep(0 if answers else random.random() * pause)
     status, answered = server.end(how)
     if status != -how:
         fail(f"status {status} where {how.name} stopped the server")
@@ -95,9 +97,9 @@ def rewrites(program, room, draw):
         shutil.copytree(ready, folder)
         owned(folder)
         new = [b"%d.%d" % (kill + 1, n) for n in range(BEHIND)]
-        # Every fourth is killed in its opening, which writes the hard state anew.
-        answers = 0 if kill % 4 == 3 else draw.randrange(8, 20)
-        count = stopped(program, folder, list(map(put, keys[BEFORE:], new)), answers, signal.SIGKILL)
+        # Every second is killed in its opening, which writes the hard state anew.
+        answers = 0 if kill % 2 else draw.choice(DUE)
+        count = stopped(program, folder, list(map(put, keys[BEFORE:], new)), answers, signal.SIGKILL, 0.006)
         fell += rewritten(folder)
         answered += count
         check_few(program, folder, keys, [b"0.%d" % n for n in range(BEFORE)] + new, BEFORE + count)
