@@ -15,10 +15,12 @@ use Rattle.den_model.specs.declared.region.LogRegion.TheVariants.{Append}
 use Rattle.den_model.proofs.Grown.{log_after, log_twice}
 use Rattle.den_model.specs.Step.{Step, Raise, Noop, Cleanup, Ask, answer, next_entry}
 use Rattle.den_model.specs.declared.log_id.HardState.{HardState}
+use Rattle.den_model.specs.declared.log_id.LogId.{LogId}
 use Rattle.den_model.specs.declared.running.Running.{Running}
 use Rattle.den_model.specs.MapState.{MapState}
 use Rattle.den_core.specs.Parts.{kv_of, raised_of}
 use Rattle.den_core.specs.Refusals.{HasJoined}
+use Rattle.den_core.specs.Trimmed.{logged_after}
 use Rattle.den_core.proofs.Quiet.{moves, longer, quiet_on}
 
 -- no cleanup is made
@@ -95,6 +97,21 @@ turn_log old new kv frame moment no_lease joined =
     subst (λ steps. IsLogAfter old kv steps new) (sym (turn_is kv frame moment no_lease))
     (purged_after old new kv (Ask frame moment ∷ [])
     (subst (λ es. IsPurgedUpTo (answer kv moment frame).after.durable.last_index (appended old es) new) (sym (append-nil (answer kv moment frame).logged)) joined))
+
+-- and it is as long as those of a frame's step make it
+pub turn_trimmed : (old new : Log) (most : ℕ) (mark : LogId) (kv : Kv) (frame : Frame) (moment : ℕ) → kv.running.setting.lease ≡ false
+    → new ≡ logged_after most mark old (answer kv moment frame).logged → new ≡ logged_after most mark old (logged kv (turn kv frame moment))
+turn_trimmed old new most mark kv frame moment no_lease is =
+    is ∙ ap (logged_after most mark old) (sym (append-nil (answer kv moment frame).logged) ∙ ap (logged kv) (sym (turn_is kv frame moment no_lease)))
+
+-- or the term's first entry
+pub opening_trimmed : (old mid new : Log) (most same : ℕ) (mark : LogId) (kv between : Kv) (moment : ℕ) → kv.running.setting.lease ≡ false → between ≡ after kv (Raise ∷ []) → mid ≡ old → same ≡ most
+    → new ≡ logged_after same mark mid (next_entry between moment command.Noop ∷ []) → new ≡ logged_after most mark old (logged kv (opening kv moment))
+opening_trimmed old mid new most same mark kv between moment no_lease state same_log same_most is =
+    is ∙ ap (λ n. logged_after n mark mid (next_entry between moment command.Noop ∷ [])) same_most
+    ∙ ap (λ l. logged_after most mark l (next_entry between moment command.Noop ∷ [])) same_log
+    ∙ ap (λ k. logged_after most mark old (next_entry k moment command.Noop ∷ [])) state
+    ∙ ap (λ steps. logged_after most mark old (logged kv steps)) (sym (opening_is kv moment no_lease))
 
 -- and no others
 pub turn_joined : (old new : Log) (kv : Kv) (frame : Frame) (moment : ℕ) → kv.running.setting.lease ≡ false → HasJoined old (answer kv moment frame).logged new → HasJoined old (logged kv (turn kv frame moment)) new

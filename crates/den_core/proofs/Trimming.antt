@@ -16,6 +16,7 @@ use Rattle.den_store.specs.Changes.{purge_words}
 use Rattle.den_store.specs.Lookup.{rest_region}
 use Rattle.den_store.specs.Order.{IsInOrder}
 use Rattle.den_core.specs.Parts.{IsCaughtUp}
+use Rattle.den_core.specs.Trimmed.{logged_after, trimmed}
 use Rattle.den_core.proofs.Durables.{AllUpTo, up_to}
 use Rattle.den_core.proofs.Weighing.{one_size}
 
@@ -94,3 +95,19 @@ ends_with l s e new applied logged is =
     subst (λ x. HasTermOf x applied.mark) (sym logged)
     (subst (λ (m : MapState). HasTermOf (changed l (Append (e ∷ []))) m.mark) (sym is)
     (only_last (λ (x : LogEntry). x.index ≡ e.index → x.term ≡ e.term) e l.entries (λ same. refl) (λ x under same. absurd (omega (arith, under, same)))))
+
+-- ---- the log behind a step
+
+-- one that is not too long stays
+pub stays_whole : (l : Log) (most : ℕ) (mark : LogId) → nat_lt most (last_index l - floor l) ≡ false → l ≡ trimmed most mark l
+stays_whole l most mark few = sym (ap (λ b. if b then changed l (Purge mark.index mark.term) else l) few)
+
+-- one that is too long was purged
+pub purged_long : (l new : Log) (most : ℕ) (mark : LogId) → nat_lt most (last_index l - floor l) ≡ true → new ≡ changed l (Purge mark.index mark.term) → new ≡ trimmed most mark l
+purged_long l new most mark long is = is ∙ sym (ap (λ b. if b then changed l (Purge mark.index mark.term) else l) long)
+
+-- behind an entry that joined it
+pub trimmed_behind : (old mid new : Log) (most same : ℕ) (mark now : LogId) (e : LogEntry) → same ≡ most → mark ≡ now → mid ≡ changed old (Append (e ∷ [])) → new ≡ trimmed same mark mid
+    → new ≡ logged_after most now old (e ∷ [])
+trimmed_behind old mid new most same mark now e same_most same_mark joined is =
+    is ∙ ap (λ n. trimmed n mark mid) same_most ∙ ap (λ m. trimmed most m mid) same_mark ∙ ap (trimmed most now) joined

@@ -9,4 +9,5 @@ pub mod Opening
 pub mod Parts
 pub mod Refusals
 pub mod Spared
+pub mod Trimmed
 pub mod Weights

@@ -19,8 +19,9 @@ use Rattle.den_core.specs.Refusals.{FailsOrStays, HasJoined, IsServeRefusal}
 use Rattle.den_core.specs.Spared.{SparesFamily}
 
 -- What is seen of a stepper at a moment: all that it holds; its log; how many entries the log may hold behind a step,
--- which no call changes; its weight, the bytes that its files and the calls since it was opened handed it, at most; that
--- it can go on; that a refusal left it of no more use; and that its files lie on the disk as its last call left them.
+-- which no call changes; its weight, what its files take or would take when written anew, with what the calls since
+-- handed it, at most; that it can go on; that a refusal left it of no more use; and that its files lie on the disk as its
+-- last call left them.
 pub record Seen : Type 1 where
   pub kv : Kv
   pub log : Log

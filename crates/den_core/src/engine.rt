@@ -9,6 +9,7 @@ ghost use Rattle.den_model.specs.declared.region.LogRegion.TheVariants.{Append};
 ghost use Rattle.den_model.specs.Step.{answer, has_ttl, next_entry};
 ghost use Rattle.den_core.specs.Making.{CanGoOn, Changes, LogIsShort, Makes};
 ghost use Rattle.den_core.specs.Parts.{durable_of, kv_of, raised_of, vote_of, HasFailed, IsCaughtUp, IsPlain, IsReady, AllRest};
+ghost use Rattle.den_core.specs.Trimmed.{logged_after, mark_of, trimmed};
 ghost use Rattle.den_core.specs.Weights.{commit_rise, frame_rise, raise_rise, trim_rise, write_rise};
 ghost use Rattle.den_state.specs.Machine.{AtRest, rest_hold};
 
@@ -176,6 +177,7 @@ fn trim<D: Disk, G: LogStore<D>, T: MetaStore<D>, M: StateMachine<D>>(
     requires ends { HasTermOf (G.shown engine.old.log).value (M.map engine.old.state).mark }
     ensures makes { Makes D.Disk (⟦<Engine<G, T, M> as Stepper<D>>⟧.seen engine.old) (⟦<Engine<G, T, M> as Stepper<D>>⟧.seen engine.new) disk.old disk.new ⟦<Engine<G, T, M> as Stepper<D>>⟧.says
         [] trim_rise ((G.shown engine.new.log).value ≡ (G.shown engine.old.log).value) result }
+    ensures trimmed { OnOk result ((G.shown engine.new.log).value ≡ trimmed engine.old.most (M.map engine.old.state).mark (G.shown engine.old.log).value) }
     ensures short { OnOk result (LogIsShort (⟦<Engine<G, T, M> as Stepper<D>>⟧.seen engine.new)) }
     ensures failed { IfErr result (λ e. engine.new.failed ≡ true) }
     ensures running { engine.new.running ≡ engine.old.running }
@@ -209,6 +211,8 @@ fn commit_and_trim<D: Disk, G: LogStore<D>, T: MetaStore<D>, M: StateMachine<D>>
         (applied (⟦<Engine<G, T, M> as Stepper<D>>⟧.seen engine.old).kv.durable (next_entry (⟦<Engine<G, T, M> as Stepper<D>>⟧.seen engine.old).kv time command))
         (next_entry (⟦<Engine<G, T, M> as Stepper<D>>⟧.seen engine.old).kv time command ∷ []) (write_rise command) result }
     ensures succeeded { IfOk result (λ succeeded. succeeded ≡ succeeds (⟦<Engine<G, T, M> as Stepper<D>>⟧.seen engine.old).kv.durable command) }
+    ensures trimmed { OnOk result ((⟦<Engine<G, T, M> as Stepper<D>>⟧.seen engine.new).log
+        ≡ logged_after (⟦<Engine<G, T, M> as Stepper<D>>⟧.seen engine.old).most (mark_of (⟦<Engine<G, T, M> as Stepper<D>>⟧.seen engine.new).kv.durable) (⟦<Engine<G, T, M> as Stepper<D>>⟧.seen engine.old).log (next_entry (⟦<Engine<G, T, M> as Stepper<D>>⟧.seen engine.old).kv time command ∷ [])) }
     ensures short { OnOk result (LogIsShort (⟦<Engine<G, T, M> as Stepper<D>>⟧.seen engine.new)) }
     ensures running { engine.new.running ≡ engine.old.running }
     ensures ready { OnOk result (⟦<Engine<G, T, M> as Stepper<D>>⟧.seen engine.new).ready }
@@ -237,6 +241,8 @@ fn answer<D: Disk, G: LogStore<D>, T: MetaStore<D>, M: StateMachine<D>>(
       events = [];
       logged = (answer (⟦<Engine<G, T, M> as Stepper<D>>⟧.seen engine.old).kv time frame).logged;
     }) }
+    ensures trimmed { OnOk result ((⟦<Engine<G, T, M> as Stepper<D>>⟧.seen engine.new).log
+        ≡ logged_after (⟦<Engine<G, T, M> as Stepper<D>>⟧.seen engine.old).most (mark_of (⟦<Engine<G, T, M> as Stepper<D>>⟧.seen engine.new).kv.durable) (⟦<Engine<G, T, M> as Stepper<D>>⟧.seen engine.old).log (answer (⟦<Engine<G, T, M> as Stepper<D>>⟧.seen engine.old).kv time frame).logged) }
     ensures short { OnOk result (LogIsShort (⟦<Engine<G, T, M> as Stepper<D>>⟧.seen engine.old) → LogIsShort (⟦<Engine<G, T, M> as Stepper<D>>⟧.seen engine.new)) }
     ensures ready { OnOk result (⟦<Engine<G, T, M> as Stepper<D>>⟧.seen engine.new).ready }
 {

@@ -15,8 +15,10 @@
 //! 4. No byte of a reply is sent before its step is on the disk: `survives` of `serve`, which ties bytes sent by a
 //!    moment to the images at that moment. `early_is_refused` says that a server that sends first would not meet it.
 //! 5. The frames are those of the input, however it is cut: `found` of `FrameReader::next`.
-//! 6. Behind each step the log holds no more entries than the engine was told: `trim` purges it up to the map's mark, which
-//!    moves nothing that the files stand for; `short` of `Stepper` and of `Serves`.
+//! 6. Behind each step the log holds no more entries than the engine was told: `LogIsShort` in specs/Making.antt. `trim`
+//!    purges it up to the map's mark where its indices run over more, and only there (`trimmed` in specs/Trimmed.antt);
+//!    that moves nothing that the files stand for. At the end of a run the log that the files give is as short:
+//!    `GivesShortLog`.
 //! 7. A full disk is told the room that one slot would need: `IsFullBy` in specs/Full.antt.
 #![tactic(auto)]
 

@@ -4,6 +4,7 @@ ghost use Rattle.den_model.specs.Plan.{logged, output, opening, turn};
 ghost use Rattle.den_core.specs.Answers.{frames_of};
 ghost use Rattle.den_core.specs.Making.{Agrees, CanGoOn, LogIsShort, Makes, Says, Seen};
 ghost use Rattle.den_core.specs.Refusals.{HasJoined};
+ghost use Rattle.den_core.specs.Trimmed.{logged_after, mark_of};
 ghost use Rattle.den_core.specs.Weights.{frame_rise, opening_rise};
 
 use den_codec::{Error, Frame, Reply, Rows, WatchEvent};
@@ -18,13 +19,15 @@ pub struct StepOut {
 
 /// A state with its files, which makes steps.
 pub trait Stepper<D: Disk>: Drop {
-    /// What is seen of it. A disk is told to be full only where four times the weight is above the limit of a file.
+    /// What is seen of it. A disk is told to be full only where four times the weight, with the call's rise, is above the limit
+    /// of a file.
     ghost seen: { Self → Seen };
 
     /// What it says of files.
     ghost says: { Says };
 
-    /// Makes the opening's steps. The log is short then. Where memory is wanting behind a write, the term is raised.
+    /// Makes the opening's steps. The log is short then: it is purged up to the mark only where its indices run over too many.
+    /// Where memory is wanting behind a write, the term is raised.
     fn open_at(&mut self, disk: &mut D, time: u64) -> Result<(), Error>
         requires stands { CanGoOn D.Disk (seen self.old) disk.old }
         requires time { 1 ≤ time }
@@ -32,15 +35,20 @@ pub trait Stepper<D: Disk>: Drop {
         requires index { (seen self.old).kv.durable.last_index < 2 ^ 64 - 1 }
         ensures makes { Makes D.Disk (seen self.old) (seen self.new) disk.old disk.new says (opening (seen self.old).kv time) opening_rise
             ((seen self.new).kv.durable.term ≡ (seen self.old).kv.durable.term + 1) result }
+        ensures log { OnOk result ((seen self.new).log
+            ≡ logged_after (seen self.old).most (mark_of (seen self.new).kv.durable) (seen self.old).log (logged (seen self.old).kv (opening (seen self.old).kv time))) }
         ensures short { OnOk result (LogIsShort (seen self.new)) };
 
-    /// Makes a frame's steps, and answers what is to be sent. A log that was short stays so. Where memory is wanting behind
-    /// a write, the steps' entries are in the log.
+    /// Makes a frame's steps, and answers what is to be sent. A log that was short stays so: where the steps log an entry it
+    /// is purged up to the mark, only where its indices run over too many. Where memory is wanting behind a write, the
+    /// steps' entries are in the log.
     fn step(&mut self, disk: &mut D, frame: Frame, time: u64) -> Result<StepOut, Error>
         requires stands { CanGoOn D.Disk (seen self.old) disk.old }
         requires time { 1 ≤ time }
         ensures makes { Makes D.Disk (seen self.old) (seen self.new) disk.old disk.new says (turn (seen self.old).kv frame time) (frame_rise frame)
             (HasJoined (seen self.old).log (logged (seen self.old).kv (turn (seen self.old).kv frame time)) (seen self.new).log) result }
+        ensures log { OnOk result ((seen self.new).log
+            ≡ logged_after (seen self.old).most (mark_of (seen self.new).kv.durable) (seen self.old).log (logged (seen self.old).kv (turn (seen self.old).kv frame time))) }
         ensures short { OnOk result (LogIsShort (seen self.old) → LogIsShort (seen self.new)) }
         ensures answer { IfOk result (λ out. frames_of out.reply out.events ≡ output (seen self.old).kv (turn (seen self.old).kv frame time)) };
 

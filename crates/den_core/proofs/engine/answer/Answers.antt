@@ -14,6 +14,7 @@ use Rattle.den_disk.specs.Goes.{Rose}
 use Rattle.den_journal.specs.Causes.{IsRefusal}
 use Rattle.den_model.specs.Grown.{appended, IsPurgedUpTo}
 use Rattle.den_model.specs.Step.{Outcome}
+use Rattle.den_core.specs.Trimmed.{logged_after}
 use Rattle.den_core.proofs.engine.answer.Goals as goal
 use Rattle.den_state.specs.Machine.{AtRest, rest_hold}
 
@@ -110,3 +111,18 @@ returns-in_ok-succeeded-in-Commit-clause-makes g c =
       };
       refused = tt;
     }
+
+-- no entry joined the log
+pub returns-in-Say-clause-trimmed : goal.returns-in-Say-clause-trimmed
+returns-in-Say-clause-trimmed g c =
+    let engine = c.args.engine.now in
+    let is = sym (c.in_ok-command.ensures.asked (term_of (g.T.MetaStore.shown engine.meta).value) c.args.time ∙ ap (outcome_of _ c.args.time) c.in-Say.is) in
+    ap (λ (o : Outcome). logged_after engine.most (g.M.StateMachine.map engine.state).mark (g.G.LogStore.shown engine.log).value o.logged) is
+
+-- the command's did
+pub returns-in_ok-succeeded-in-Commit-clause-trimmed : goal.returns-in_ok-succeeded-in-Commit-clause-trimmed
+returns-in_ok-succeeded-in-Commit-clause-trimmed g c =
+    let engine = c.args.engine.now in
+    let is = sym (c.in_ok-command.ensures.asked (term_of (g.T.MetaStore.shown engine.meta).value) c.args.time ∙ ap (outcome_of _ c.args.time) c.in-Commit.is) in
+    c.in_ok-succeeded-in-Commit.ensures.trimmed
+    ∙ ap (λ (o : Outcome). logged_after engine.most (g.M.StateMachine.map c.commit_and_trim.new.engine.state).mark (g.G.LogStore.shown engine.log).value o.logged) is

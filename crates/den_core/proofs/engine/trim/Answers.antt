@@ -10,7 +10,7 @@ use Rattle.den_core.proofs.GoesOn.{disk_same}
 use Rattle.den_core.proofs.Quiet.{stays}
 use Rattle.den_core.proofs.Refusing.{at_exit, fails_or_stays, not_done, untouched_only}
 use Rattle.den_core.proofs.Spared.{all_at_rest, apart_own, gives_now, log_moves, meta_log, same_gives, snapshot_log, spared, spares_by, spares_still, state_log}
-use Rattle.den_core.proofs.Trimming.{few_entries, mark_above, trimmed_caught_up, trimmed_is, trimmed_short, trimmed_words}
+use Rattle.den_core.proofs.Trimming.{few_entries, mark_above, purged_long, stays_whole, trimmed_caught_up, trimmed_is, trimmed_short, trimmed_words}
 use Rattle.den_core.proofs.Weighing.{full_by, heavier}
 use Rattle.den_core.proofs.engine.trim.Goals as goal
 
@@ -132,3 +132,15 @@ returns-clause-short g c =
     let caught = c.requires.stands.ready.1.caught_up in
     trimmed_short l s caught (mark_above l s engine.most caught (sym c.is_long.ensures ∙ c.if-not-is_long.false)) _
     (c.in_ok-purge.ensures.writes.done.value ∙ ap (λ (i : LogId). changed l (Purge i.index i.term)) c.last_applied-applied.ensures) engine.most
+
+pub returns-then-not-is_long-clause-trimmed : goal.returns-then-not-is_long-clause-trimmed
+returns-then-not-is_long-clause-trimmed g c =
+    let engine = c.args.engine.now in
+    stays_whole (g.G.LogStore.shown engine.log).value engine.most (g.M.StateMachine.map engine.state).mark (sym c.is_long.ensures ∙ c.if-not-is_long.true)
+
+pub returns-clause-trimmed : goal.returns-clause-trimmed
+returns-clause-trimmed g c =
+    let engine = c.args.engine.now in
+    let l = (g.G.LogStore.shown engine.log).value in
+    purged_long l _ engine.most (g.M.StateMachine.map engine.state).mark (sym c.is_long.ensures ∙ c.if-not-is_long.false)
+    (c.in_ok-purge.ensures.writes.done.value ∙ ap (λ (i : LogId). changed l (Purge i.index i.term)) c.last_applied-applied.ensures)

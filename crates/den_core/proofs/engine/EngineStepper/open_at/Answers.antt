@@ -5,7 +5,7 @@ use Rattle.den_core.proofs.GoesOn.{disk_twice}
 use Rattle.den_core.proofs.Spared.{spares_twice}
 use Rattle.den_core.proofs.Weighing.{heavier}
 use Rattle.den_disk.specs.Files.{Kind}
-use Rattle.den_core.proofs.Steps.{opening_begun, opening_log, opening_made, opening_state, raised_is}
+use Rattle.den_core.proofs.Steps.{opening_begun, opening_log, opening_made, opening_state, opening_trimmed, raised_is}
 use Rattle.den_core.proofs.Refusing.{at_exit, fails_behind, left_weaker, not_done, refusal_behind}
 use Rattle.den_core.proofs.engine.EngineStepper.open_at.Goals as goal
 
@@ -79,3 +79,10 @@ returns-clause-makes g c =
       };
       refused = tt;
     }
+
+pub returns-clause-log : goal.returns-clause-log
+returns-clause-log g c =
+    let self = c.args.self.now in
+    let raised = c.in_ok-raise.ensures in
+    opening_trimmed _ _ _ _ _ _ (kv_of (g.T.MetaStore.shown self.meta).value (g.M.StateMachine.map self.state) self.running) _ c.args.time c.requires.stands.ready.1.plain.no_lease
+    (raised_is (g.T.MetaStore.shown self.meta).value _ _ _ _ _ raised.raised c.raise.ensures.map c.raise.ensures.running) c.raise.ensures.log raised.makes.same_most c.in_ok-commit_and_trim.ensures.trimmed

@@ -1,5 +1,5 @@
 use Rattle.std.proofs.Common.{ap}
-use Rattle.den_core.proofs.Steps.{turn_joined, turn_log, turn_made, turn_state}
+use Rattle.den_core.proofs.Steps.{turn_joined, turn_log, turn_made, turn_state, turn_trimmed}
 use Rattle.den_core.proofs.Refusing.{at_exit, left_weaker, not_done}
 use Rattle.den_core.proofs.engine.EngineStepper.step.Goals as goal
 
@@ -37,3 +37,6 @@ returns-clause-makes g c =
       };
       refused = tt;
     }
+
+pub returns-clause-log : goal.returns-clause-log
+returns-clause-log g c = turn_trimmed _ _ _ _ _ c.args.frame c.args.time c.requires.stands.ready.1.plain.no_lease c.in_ok-reply.ensures.trimmed
