@@ -1,4 +1,5 @@
 pub mod Changes
+pub mod Checkpoint
 pub mod Chunk
 pub mod Cleanup
 pub mod FileState

@@ -1,7 +1,8 @@
 //! The state machine in files.
-ghost use Rattle.std.specs.Prelude.{◌≡◌, ◌≤◌};
+ghost use Rattle.std.specs.Prelude.{◌≡◌, ◌≤◌, ◌⊎◌};
 
 use crate::StateMachine;
+use crate::checkpoint::write_anew;
 use crate::cleanup::prepare;
 use crate::stored_map::StoredMap;
 use den_codec::{ApplyResult, Blob, Entry, Error, LogId, Positive, Rows, ScanResult, StateRegion};
@@ -10,6 +11,9 @@ use den_journal::Journal;
 use den_lease::DefaultLease;
 use den_map::{asks_lease, out_of_order};
 use std::alloc::Global;
+
+// So many records behind the last beginning ask for a checkpoint.
+const LONG_TAIL: u64 = 1000;
 
 /// A map in memory, whose journal is the gate file of the State family.
 #[derive(Drop)]
@@ -41,16 +45,22 @@ fn later(one: LogId, other: LogId) -> LogId
 }
 
 impl FileStateMachine {
-    ghost use Rattle.std.specs.Prelude.{◌&&◌, [], false, true, None, IfSome, is_some, IfOk, IfErr, OnOk, length};
+    ghost use Rattle.std.specs.Prelude.{◌&&◌, [], ◌∷◌, false, true, None, IfSome, is_some, IfOk, IfErr, OnOk, length};
     ghost use Rattle.den_disk.specs.declared.place.Family.TheVariants.{State as state_family};
     ghost use Rattle.den_model.specs.Image.{map_in};
     ghost use Rattle.den_model.specs.MapState.{map_applied_all, results_of};
     ghost use Rattle.den_lease.specs.Due.{has_due};
     ghost use Rattle.den_map.specs.Order.{out_of_order};
+    ghost use Rattle.den_journal.specs.Causes.{IsOfDisk};
     ghost use Rattle.den_journal.specs.Writes.{Opens, Stands, Writes};
-    ghost use Rattle.den_state.specs.Changes.{chunk_change};
-    ghost use Rattle.den_state.specs.FileState.{map_held, state_map, state_settings, state_shown};
-    ghost use Rattle.den_state.specs.Machine.{Adds};
+    ghost use Rattle.den_state.specs.Changes.{chunk_change, cleanup_change};
+    ghost use Rattle.den_state.specs.Cleanup.{cleaned_where, removed_where};
+    ghost use Rattle.std.specs.List.Sorted.{IsStrictlySortedBy};
+    ghost use Rattle.den_model.specs.Table.{by_bytes};
+    ghost use Rattle.den_model.specs.declared.journal.JournalRecord.TheVariants.{Cleanup};
+    ghost use Rattle.den_state.specs.Checkpoint.{renew_change};
+    ghost use Rattle.den_state.specs.FileState.{HasShortTail, map_held, state_map, state_settings, state_shown};
+    ghost use Rattle.den_state.specs.Machine.{Adds, AddsOrRenews, HoldsCheckpoint};
     ghost use Rattle.den_model.specs.declared.region.StateRegion.TheVariants.{Records};
     ghost use Rattle.den_model.specs.Spelling.{state_region_word};
     ghost use Rattle.den_map.specs.Journal.{all_recorded};
@@ -95,6 +105,7 @@ impl FileStateMachine {
         ensures results { IfOk result (λ results. results ≡ results_of (state_map self.old) chunk.now) }
         ensures stored { OnOk result ((state_shown self.new).value ≡ state_map self.new) }
         ensures same { IfErr result (λ e. (state_shown self.new).ready → state_map self.new ≡ state_map self.old) }
+        ensures kept { IfErr result (λ e. IsOfDisk e → state_map self.new ≡ state_map self.old) }
         ensures region { OnOk result (Adds D.Disk self.old.journal.gate.slot disk.old disk.new
             (state_region_word (Records (all_recorded (state_shown self.old).value chunk.now)))) }
         ensures slot { self.new.journal.gate.slot ≡ self.old.journal.gate.slot }
@@ -111,6 +122,111 @@ impl FileStateMachine {
                 self.applied = later(self.applied, self.journal.held().map.mark());
                 Err(error)
             }
+        }
+    }
+
+    /// Writes the map anew with the stored mark: as its beginning and pages of its pairs, without a record. A crash inside
+    /// leaves the map. A refusal ends its use.
+    pub fn checkpoint<D: Disk>(&mut self, disk: &mut D) -> Result<(), Error>
+        requires stands { Stands D.Disk (state_shown self.old) disk.old }
+        ensures writes { Writes D.Disk (state_shown self.old) (state_shown self.new) disk.old disk.new state_family map_held (renew_change (state_shown self.old).value) result }
+        ensures map { state_map self.new ≡ state_map self.old }
+        ensures value { (state_shown self.new).value ≡ (state_shown self.old).value }
+        ensures short { OnOk result (HasShortTail self.new) }
+        ensures checkpoint { OnOk result (HoldsCheckpoint D.Disk self.new.journal.gate.slot disk.old disk.new (state_shown self.old).value) }
+        ensures failed { IfErr result (λ e. (state_shown self.new).ready → ⊥) }
+        ensures settings { state_settings self.new ≡ state_settings self.old }
+    {
+        write_anew(self.alloc, &mut self.journal, disk)
+    }
+
+    // The same where many records follow the last beginning.
+    fn shorten<D: Disk>(&mut self, disk: &mut D) -> Result<(), Error>
+        requires stands { Stands D.Disk (state_shown self.old) disk.old }
+        ensures writes { Writes D.Disk (state_shown self.old) (state_shown self.new) disk.old disk.new state_family map_held (renew_change (state_shown self.old).value) result }
+        ensures map { state_map self.new ≡ state_map self.old }
+        ensures value { (state_shown self.new).value ≡ (state_shown self.old).value }
+        ensures short { OnOk result (HasShortTail self.new) }
+        ensures files { OnOk result (((self.new ≡ self.old) × (disk.new ≡ disk.old))
+            ⊎ HoldsCheckpoint D.Disk self.new.journal.gate.slot disk.old disk.new (state_shown self.old).value) }
+        ensures failed { IfErr result (λ e. (state_shown self.new).ready → ⊥) }
+        ensures settings { state_settings self.new ≡ state_settings self.old }
+    {
+        if self.journal.held().tail < LONG_TAIL {
+            return Ok(());
+        }
+        self.checkpoint(disk)
+    }
+
+    // Applies entries, with a checkpoint behind them where many records follow the last one.
+    fn apply<D: Disk>(&mut self, disk: &mut D, chunk: &[Entry]) -> Result<Rows<ApplyResult>, Error>
+        requires stands { Stands D.Disk (state_shown self.old) disk.old }
+        requires in_order { out_of_order (state_map self.old).mark.index chunk.now ≡ None }
+        requires some { 1 ≤ length chunk.now }
+        ensures writes { Writes D.Disk (state_shown self.old) (state_shown self.new) disk.old disk.new state_family map_held (chunk_change (state_shown self.old).value chunk.now) result }
+        ensures applied { OnOk result (state_map self.new ≡ map_applied_all (state_map self.old) chunk.now) }
+        ensures results { IfOk result (λ results. results ≡ results_of (state_map self.old) chunk.now) }
+        ensures stored { OnOk result ((state_shown self.new).value ≡ state_map self.new) }
+        ensures same { IfErr result (λ e. (state_shown self.new).ready → state_map self.new ≡ state_map self.old) }
+        ensures kept { IfErr result (λ e. IsOfDisk e → (state_map self.new ≡ state_map self.old) ⊎ (state_map self.new ≡ map_applied_all (state_map self.old) chunk.now)) }
+        ensures short { OnOk result (HasShortTail self.new) }
+        ensures region { OnOk result (AddsOrRenews D.Disk self.old.journal.gate.slot self.new.journal.gate.slot disk.old disk.new
+            (state_region_word (Records (all_recorded (state_shown self.old).value chunk.now))) (state_shown self.new).value) }
+        ensures settings { state_settings self.new ≡ state_settings self.old }
+    {
+        match self.commit(disk, chunk) {
+            Ok(results) => match self.shorten(disk) {
+                Ok(()) => Ok(results),
+                Err(error) => Err(error),
+            },
+            Err(error) => Err(error),
+        }
+    }
+
+    // Removes what has expired, where something has: one region of a record.
+    fn remove<D: Disk>(&mut self, disk: &mut D, moment: Positive) -> Result<Rows<Blob>, Error>
+        requires stands { Stands D.Disk (state_shown self.old) disk.old }
+        requires due { ((state_settings self.old).leased && has_due moment (state_map self.old).expiries) ≡ true }
+        ensures writes { Writes D.Disk (state_shown self.old) (state_shown self.new) disk.old disk.new state_family map_held
+            (cleanup_change (state_settings self.old).leased moment (state_shown self.old).value) result }
+        ensures cleaned { OnOk result (state_map self.new ≡ cleaned_where (state_settings self.old).leased moment (state_map self.old)) }
+        ensures same { IfErr result (λ e. state_map self.new ≡ state_map self.old) }
+        ensures keys { IfOk result (λ keys. keys ≡ removed_where (state_settings self.old).leased moment (state_map self.old)) }
+        ensures sorted { IfOk result (λ keys. IsStrictlySortedBy by_bytes keys) }
+        ensures region { OnOk result (Adds D.Disk self.old.journal.gate.slot disk.old disk.new (state_region_word (Records (Cleanup moment ∷ [])))) }
+        ensures slot { self.new.journal.gate.slot ≡ self.old.journal.gate.slot }
+        ensures settings { state_settings self.new ≡ state_settings self.old }
+    {
+        let due = prepare(self.alloc, &self.journal.held().map, moment)?;
+        match self.journal.change(disk, due.region) {
+            Ok(()) => Ok(due.keys),
+            Err(error) => Err(error),
+        }
+    }
+
+    // The same, with a checkpoint behind it where many records follow the last one.
+    fn clean<D: Disk>(&mut self, disk: &mut D, moment: Positive) -> Result<Rows<Blob>, Error>
+        requires stands { Stands D.Disk (state_shown self.old) disk.old }
+        requires due { ((state_settings self.old).leased && has_due moment (state_map self.old).expiries) ≡ true }
+        ensures writes { Writes D.Disk (state_shown self.old) (state_shown self.new) disk.old disk.new state_family map_held
+            (cleanup_change (state_settings self.old).leased moment (state_shown self.old).value) result }
+        ensures cleaned { OnOk result (state_map self.new ≡ cleaned_where (state_settings self.old).leased moment (state_map self.old)) }
+        ensures same { IfErr result (λ e. (state_shown self.new).ready → state_map self.new ≡ state_map self.old) }
+        ensures kept { IfErr result (λ e. (state_map self.new ≡ state_map self.old)
+            ⊎ (state_map self.new ≡ cleaned_where (state_settings self.old).leased moment (state_map self.old))) }
+        ensures keys { IfOk result (λ keys. keys ≡ removed_where (state_settings self.old).leased moment (state_map self.old)) }
+        ensures sorted { IfOk result (λ keys. IsStrictlySortedBy by_bytes keys) }
+        ensures short { OnOk result (HasShortTail self.new) }
+        ensures region { OnOk result (AddsOrRenews D.Disk self.old.journal.gate.slot self.new.journal.gate.slot disk.old disk.new
+            (state_region_word (Records (Cleanup moment ∷ []))) (state_shown self.new).value) }
+        ensures settings { state_settings self.new ≡ state_settings self.old }
+    {
+        match self.remove(disk, moment) {
+            Ok(keys) => match self.shorten(disk) {
+                Ok(()) => Ok(keys),
+                Err(error) => Err(error),
+            },
+            Err(error) => Err(error),
         }
     }
 
@@ -159,7 +275,7 @@ impl<D: Disk> StateMachine<D> for FileStateMachine {
     ghost below = { λ s. s.below };
 
     /// A chunk that is refused for its order or for want of a lease leaves all as it was, as does one without entries.
-    /// Any other adds one region to the journal.
+    /// Any other adds one region to the journal, or writes the map anew behind it.
     fn apply_chunk(&mut self, disk: &mut D, chunk: &[Entry]) -> Result<Rows<ApplyResult>, Error> {
         if let Some(index) = out_of_order(self.applied.index, chunk) {
             return Err(Error::UnorderedChunk { index });
@@ -170,7 +286,7 @@ impl<D: Disk> StateMachine<D> for FileStateMachine {
         if chunk.is_empty() {
             return Ok(Rows::of(Vec::new(self.alloc)));
         }
-        self.commit(disk, chunk)
+        self.apply(disk, chunk)
     }
 
     fn update_last_applied(&mut self, last_applied: LogId) {
@@ -207,23 +323,23 @@ impl<D: Disk> StateMachine<D> for FileStateMachine {
         self.save_hard_state(disk)
     }
 
-    /// Adds one region of the cleanup to the journal, where a key has expired.
+    /// Adds one region of the cleanup to the journal, where a key has expired, or writes the map anew behind it.
     fn lease_background_cleanup(&mut self, disk: &mut D, now: u64) -> Result<Rows<Blob>, Error> {
         let moment = Positive::of(now.max(1));
         if !self.is_due(moment.get()) {
             return Ok(Rows::of(Vec::new(self.alloc)));
         }
-        let due = prepare(self.alloc, &self.journal.held().map, moment)?;
-        match self.journal.change(disk, due.region) {
-            Ok(()) => Ok(due.keys),
-            Err(error) => Err(error),
-        }
+        self.clean(disk, moment)
     }
 
     /// Whether a write was refused, by a fault of the disk or a full one, or memory was wanting behind a write. It is
     /// opened anew then.
     fn is_failed(&self) -> bool {
         self.journal.is_failed()
+    }
+
+    fn flush(&mut self, disk: &mut D) -> Result<(), Error> {
+        self.checkpoint(disk)
     }
 
     fn has_lease(&self) -> bool {

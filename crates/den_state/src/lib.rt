@@ -3,7 +3,8 @@
 //!
 //! `StateMachine` is the trait, and `FileStateMachine` its body: a journal (den_journal) of the map with the stored mark
 //! (`StoredMap`), and beside it the applied mark, whether a lease is configured, whether it runs, and what was last said of
-//! a snapshot. A chunk of entries is one region of their records, a mark one region, a cleanup one region.
+//! a snapshot. A chunk of entries is one region of their records, a mark one region, a cleanup one region. Where 1,000
+//! records follow the last beginning, the call that added the last of them writes the map anew: a checkpoint.
 //!
 //! Invariants:
 //!
@@ -13,13 +14,18 @@
 //!    `below`, the ghost field `below` of `FileStateMachine`.
 //! 3. A chunk out of order, or with a time to live where no lease is configured, changes nothing: `turned_away`.
 //! 4. A crash inside a call leaves the old stored map or the new one: `writes`.
-//! 5. Want of memory behind the write of a chunk ends the machine, with the chunk in its files: `IsLost` (den_journal).
+//! 5. Want of memory behind the write of a chunk or a cleanup ends the machine, with the change in its files: `IsLost`
+//!    (den_journal).
+//! 6. A checkpoint is the stored mark and all pairs with their expiries, in pages (specs/Checkpoint.antt). It is written into
+//!    the slot that is not in use; until its commit the other one stands (`IsWriting`, `Steps`), and from then on no record
+//!    follows its beginning (`short`).
 //!
 //!     let mut machine = FileStateMachine::new(alloc, &mut disk, None)?;
 //!     let results = machine.apply_chunk(&mut disk, chunk)?;
 //!     machine.close(&mut disk)?;
 #![tactic(auto)]
 
+mod checkpoint;
 mod cleanup;
 mod file_machine;
 mod machine;

@@ -1,5 +1,5 @@
 //! What a state machine is.
-ghost use Rattle.std.specs.Prelude.{◌≡◌, ◌==◌, ◌≤◌, ◌↔◌, ◌&&◌, true, false, [], ◌∷◌, max, length, Option, Some, None, IfSome, IsOk, OnOk, IfOk, IfErr, option_map, Err};
+ghost use Rattle.std.specs.Prelude.{◌≡◌, ◌==◌, ◌≤◌, ◌↔◌, ◌⊎◌, ◌&&◌, true, false, [], ◌∷◌, max, length, Option, Some, None, IfSome, IsOk, OnOk, IfOk, IfErr, option_map, Err};
 ghost use Rattle.den_disk.specs.declared.place.Family.TheVariants.{State as state_family};
 ghost use Rattle.den_disk.specs.declared.place.Place.{Place};
 ghost use Rattle.den_model.specs.MapState.{MapState, map_applied_all, results_of, part_of};
@@ -15,13 +15,15 @@ ghost use Rattle.den_model.specs.Table.{by_bytes};
 ghost use Rattle.den_lease.specs.Due.{has_due};
 ghost use Rattle.den_map.specs.Leases.{has_expiry};
 ghost use Rattle.den_map.specs.Scan.{keys_in};
+ghost use Rattle.den_journal.specs.Causes.{IsOfDisk};
 ghost use Rattle.den_journal.specs.Lies.{Lies};
 ghost use Rattle.den_journal.specs.Shown.{Held, Shown};
 ghost use Rattle.den_journal.specs.Writes.{Stands, Writes};
 ghost use Rattle.den_state.specs.Changes.{chunk_change, cleanup_change, mark_change};
+ghost use Rattle.den_state.specs.Checkpoint.{renew_change};
 ghost use Rattle.den_state.specs.Chunk.{refusal_of_chunk};
 ghost use Rattle.den_state.specs.Cleanup.{cleaned_where, removed_where};
-ghost use Rattle.den_state.specs.Machine.{Adds, Closes, Settings, StaysAs};
+ghost use Rattle.den_state.specs.Machine.{Adds, AddsOrRenews, Closes, HoldsCheckpoint, Settings, StaysAs};
 
 use crate::SnapshotMetadata;
 use den_codec::{ApplyResult, Blob, Entry, Error, LogId, Rows, ScanResult};
@@ -52,7 +54,8 @@ pub trait StateMachine<D: Disk>: Drop {
     /// Applies entries in order, each swap seeing the writes before it, and answers whether each succeeded. A chunk out
     /// of order, or with a time to live where no lease is configured, is refused with nothing changed; a fault of the
     /// disk or a full one ends its use; want of memory leaves all as it was, or ends its use. A chunk without entries
-    /// changes nothing. A crash inside leaves the old map with the old stored mark, or the new map.
+    /// changes nothing. A crash inside leaves the old map with the old stored mark, or the new map. Where many records
+    /// follow the last checkpoint, one is written behind the chunk.
     fn apply_chunk(&mut self, disk: &mut D, chunk: &[Entry]) -> Result<Rows<ApplyResult>, Error>
         requires stands { Stands D.Disk (shown self.old) disk.old }
         ensures turned_away { IfSome (refusal_of_chunk (settings self.old).leased (map self.old).mark.index chunk.now)
@@ -63,10 +66,11 @@ pub trait StateMachine<D: Disk>: Drop {
         ensures results { IfOk result (λ results. results ≡ results_of (map self.old) chunk.now) }
         ensures stored { OnOk result (1 ≤ length chunk.now → (shown self.new).value ≡ map self.new) }
         ensures same { IfErr result (λ e. (shown self.new).ready → map self.new ≡ map self.old) }
+        ensures kept { IfErr result (λ e. IsOfDisk e → (map self.new ≡ map self.old) ⊎ (map self.new ≡ map_applied_all (map self.old) chunk.now)) }
         ensures nothing { chunk.now ≡ [] → (self.new ≡ self.old) × (disk.new ≡ disk.old) × IsOk result }
-        ensures region { OnOk result (1 ≤ length chunk.now → Adds D.Disk (slot self.old) disk.old disk.new
-            (state_region_word (Records (all_recorded (shown self.old).value chunk.now)))) }
-        ensures slot { slot self.new ≡ slot self.old }
+        ensures short { OnOk result (1 ≤ length chunk.now → short self.new) }
+        ensures region { OnOk result (1 ≤ length chunk.now → AddsOrRenews D.Disk (slot self.old) (slot self.new) disk.old disk.new
+            (state_region_word (Records (all_recorded (shown self.old).value chunk.now))) (shown self.new).value) }
         ensures settings { settings self.new ≡ settings self.old };
 
     /// Moves the applied mark, in memory alone.
@@ -110,19 +114,33 @@ pub trait StateMachine<D: Disk>: Drop {
             (state_region_word (Mark (map self).mark.index (map self).mark.term))) };
 
     /// Removes each key whose expiry is at most the moment, which counts as 1 where it is 0, with its expiry. Answers
-    /// the removed keys, sorted. Without a lease, or where none has expired, it writes nothing.
+    /// the removed keys, sorted. Without a lease, or where none has expired, it writes nothing. Where many records follow
+    /// the last checkpoint, one is written behind the cleanup.
     fn lease_background_cleanup(&mut self, disk: &mut D, now: u64) -> Result<Rows<Blob>, Error>
         requires stands { Stands D.Disk (shown self.old) disk.old }
         ensures writes { Writes D.Disk (shown self.old) (shown self.new) disk.old disk.new state_family holds
             (cleanup_change (settings self.old).leased (max now 1) (shown self.old).value) result }
         ensures cleaned { OnOk result (map self.new ≡ cleaned_where (settings self.old).leased (max now 1) (map self.old)) }
-        ensures same { IfErr result (λ e. map self.new ≡ map self.old) }
+        ensures same { IfErr result (λ e. (shown self.new).ready → map self.new ≡ map self.old) }
+        ensures kept { IfErr result (λ e. (map self.new ≡ map self.old) ⊎ (map self.new ≡ cleaned_where (settings self.old).leased (max now 1) (map self.old))) }
         ensures keys { IfOk result (λ keys. keys ≡ removed_where (settings self.old).leased (max now 1) (map self.old)) }
         ensures sorted { IfOk result (λ keys. IsStrictlySortedBy by_bytes keys) }
         ensures nothing { ((settings self.old).leased && has_due (max now 1) (map self.old).expiries) ≡ false → (self.new ≡ self.old) × (disk.new ≡ disk.old) × IsOk result }
-        ensures region { OnOk result (((settings self.old).leased && has_due (max now 1) (map self.old).expiries) ≡ true → Adds D.Disk (slot self.old) disk.old disk.new
-            (state_region_word (Records (Cleanup (max now 1) ∷ [])))) }
-        ensures slot { slot self.new ≡ slot self.old }
+        ensures short { OnOk result (((settings self.old).leased && has_due (max now 1) (map self.old).expiries) ≡ true → short self.new) }
+        ensures region { OnOk result (((settings self.old).leased && has_due (max now 1) (map self.old).expiries) ≡ true
+            → AddsOrRenews D.Disk (slot self.old) (slot self.new) disk.old disk.new (state_region_word (Records (Cleanup (max now 1) ∷ []))) (shown self.new).value) }
+        ensures settings { settings self.new ≡ settings self.old };
+
+    /// Writes its files anew: the map with the stored mark, without a record. The map stays. A crash inside leaves it, and a
+    /// refusal ends its use.
+    fn flush(&mut self, disk: &mut D) -> Result<(), Error>
+        requires stands { Stands D.Disk (shown self.old) disk.old }
+        ensures writes { Writes D.Disk (shown self.old) (shown self.new) disk.old disk.new state_family holds (renew_change (shown self.old).value) result }
+        ensures map { map self.new ≡ map self.old }
+        ensures value { (shown self.new).value ≡ (shown self.old).value }
+        ensures short { OnOk result (short self.new) }
+        ensures checkpoint { OnOk result (HoldsCheckpoint D.Disk (slot self.new) disk.old disk.new (shown self.old).value) }
+        ensures failed { IfErr result (λ e. (shown self.new).ready → ⊥) }
         ensures settings { settings self.new ≡ settings self.old };
 
     /// Whether a refusal left it of no more use. It is opened anew then.

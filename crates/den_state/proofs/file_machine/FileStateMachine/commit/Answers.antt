@@ -63,7 +63,7 @@ returns-in-Ok-clause-writes g c =
     let over = ap (λ (h : StoredMap). h.map) c.held.ensures in
     let after = after_records m c.held.result.now.map c.args.chunk.now c.of-records.result _ over c.of-records.ensures c.in_ok-journaled.ensures.lawful in
     let light = light_records m c.held.result.now.map c.args.chunk.now c.of-records.result _ over c.of-records.ensures c.in_ok-journaled.ensures.records in
-    writes_part g.D.Disk State (held_in State (stored_from nothing_stored)) map_held (λ (v : Stored). v.map) _ _ _ _ _ _ (λ told. told) held_map (ap (map_by m) after) (λ n is. is ∙ light.0) (λ n is. is) light.1 (λ _. tt) (Ok _) (Ok _) tt c.in-Ok.ensures.writes
+    writes_part g.D.Disk State (held_in State (stored_from nothing_stored)) map_held (λ (v : Stored). v.map) _ _ _ _ _ _ (λ told. told) held_map (ap (map_by m) after) (λ n is. is ∙ light.0) (λ n never. absurd never) light.1 (λ _. tt) (Ok _) (Ok _) tt c.in-Ok.ensures.writes
 
 pub returns-in-Err-clause-writes : goal.returns-in-Err-clause-writes
 returns-in-Err-clause-writes g c =
@@ -72,7 +72,7 @@ returns-in-Err-clause-writes g c =
     let over = ap (λ (h : StoredMap). h.map) c.held.ensures in
     let after = after_records m c.held.result.now.map c.args.chunk.now c.of-records.result _ over c.of-records.ensures c.in_ok-journaled.ensures.lawful in
     let light = light_records m c.held.result.now.map c.args.chunk.now c.of-records.result _ over c.of-records.ensures c.in_ok-journaled.ensures.records in
-    writes_part g.D.Disk State (held_in State (stored_from nothing_stored)) map_held (λ (v : Stored). v.map) _ _ _ _ _ _ (λ told. told) held_map (ap (map_by m) after) (λ n is. is ∙ light.0) (λ n is. is) light.1 (λ _. tt) (Err _) (Err _) refl c.in-Err.ensures.writes
+    writes_part g.D.Disk State (held_in State (stored_from nothing_stored)) map_held (λ (v : Stored). v.map) _ _ _ _ _ _ (λ told. told) held_map (ap (map_by m) after) (λ n is. is ∙ light.0) (λ n never. absurd never) light.1 (λ _. tt) (Err _) (Err _) refl c.in-Err.ensures.writes
 
 pub returns-in-Ok-clause-applied : goal.returns-in-Ok-clause-applied
 returns-in-Ok-clause-applied g c =

@@ -1,6 +1,7 @@
 use Rattle.std.proofs.Common.{◌≡◌, true, List, [], ◌∷◌, length, refl, sym, ◌∙◌, arith}
 use Rattle.std.specs.Prelude.{◌==◌}
 use Rattle.std.proofs.lemmas.Bool.{eqb-true}
+use Rattle.std.proofs.lemmas.Result.{on_ok_weaker}
 use Rattle.den_disk.specs.declared.place.Family.TheVariants.{State}
 use Rattle.den_model.specs.Entries.{LogEntry}
 use Rattle.den_model.specs.MapState.{MapState, map_applied_all}
@@ -19,3 +20,6 @@ returns-then-is_empty-clause-writes g c = λ none.
     writes_nothing g.D.Disk State map_held _ _ _ d s.ready s.rests
     (λ tells told files i. state_lies.rests_hold told c.args.self.now (g.D.Disk.content d) files s.ready (s.rests tells) ((g.met.D.Disk.images_now d files tells).0 i))
     _ (none_applied c.args.self.now.journal.held.map c.args.chunk.now (sym c.is_empty.ensures ∙ c.if-is_empty.true)) (omega arith)
+
+pub returns-clause-region : goal.returns-clause-region
+returns-clause-region g c = on_ok_weaker c.apply.result (λ files _. files) c.apply.ensures.region
