@@ -31,6 +31,11 @@ const SLOT: Place = Place {
     part: Part::A,
 };
 
+const OTHER_SLOT: Place = Place {
+    family: Family::State,
+    part: Part::B,
+};
+
 // A region of one Noop of index 1 and term 1. Its record has 41 bytes: index, term, opcode, key, value and expiry.
 const NOOP_REGION: &[u8] =
     b"\x01\0\0\0\0\0\0\0\x32\x03\0\0\0\0\0\0\0\x01\0\0\0\0\0\0\0\x01\0\0\0\0\0\0\0\x01\0\0\0\0\0\0\0\0\0\0\0\0\0\0\0\0\0\0\0\0\0\0\0\0\0";
@@ -48,6 +53,12 @@ const CLEANUP_REGION: &[u8] =
 
 // A region that moves the mark to index 5 and term 2.
 const MARK_REGION: &[u8] = b"\x01\0\0\0\0\0\0\0\x11\x04\0\0\0\0\0\0\0\x05\0\0\0\0\0\0\0\x02";
+
+// A region that begins with the mark of index 999 and term 1, and one of c at the key b, of term 1 and without expiry.
+const BEGIN_REGION: &[u8] = b"\x01\0\0\0\0\0\0\0\x11\x01\0\0\0\0\0\0\x03\xe7\0\0\0\0\0\0\0\x01";
+
+const PAIRS_REGION: &[u8] =
+    b"\x01\0\0\0\0\0\0\0\x2b\x02\0\0\0\0\0\0\0\x01\0\0\0\0\0\0\0\x01b\0\0\0\0\0\0\0\x01c\0\0\0\0\0\0\0\x01\0\0\0\0\0\0\0\0";
 
 // What an entry does, where keys and values are single bytes.
 #[derive(Clone, Copy, Debug)]
@@ -347,7 +358,10 @@ fn opens_as<D: Disk>(
 
 // Whether the slot holds these regions and nothing behind them.
 fn holds(disk: &MemDisk, regions: &[&[u8]]) -> bool {
-    let slot = disk.get(SLOT);
+    lists(disk.get(SLOT), regions)
+}
+
+fn lists(slot: &[u8], regions: &[&[u8]]) -> bool {
     let mut at = 0;
     for region in regions {
         match slot.get(at..) {
@@ -494,6 +508,51 @@ fn records_a_cleanup(rt: HostRuntime) -> Result<(), Fail> {
     disk.crash(0);
     assert!(rt; opens_as(alloc, &mut disk, [None; 5], mark_of(1))?);
     assert!(rt; holds(&disk, &[EXPIRING_REGION, CLEANUP_REGION]));
+    Ok(())
+}
+
+// 999 records: of a key that expires at 2000, of one that does not, and of entries without effect.
+fn many(alloc: Global) -> Result<Vec<(u64, Write)>, Error> {
+    let mut writes = Vec::new(alloc);
+    writes.push((1, Write::Expiring(b'a', b'b', 1)))?;
+    writes.push((2, Write::Insert(b'b', b'c')))?;
+    for index in 3..1000 {
+        writes.push((index, Write::Noop))?;
+    }
+    Ok(writes)
+}
+
+// The record of a cleanup is one more, so mark and pairs are written anew behind it, into the other slot.
+#[test]
+fn writes_a_checkpoint_behind_a_cleanup(rt: HostRuntime) -> Result<(), Fail> {
+    let alloc = rt.alloc();
+    let mut disk = MemDisk::new(alloc);
+    apply(alloc, &mut disk, true, many(alloc)?.as_slice())?;
+    assert!(rt; disk.get(OTHER_SLOT).is_empty());
+    assert!(rt; removes(alloc, &mut disk, true, 2000, b"a")?);
+    assert!(rt; lists(disk.get(OTHER_SLOT), &[BEGIN_REGION, PAIRS_REGION]));
+    disk.crash(0);
+    let values = [None, Some(b'c'), None, None, None];
+    assert!(rt; opens_as(alloc, &mut disk, values, mark_of(999))?);
+    Ok(())
+}
+
+fn flush<D: Disk>(alloc: Global, disk: &mut D) -> Result<(), Error> {
+    let mut machine = FileStateMachine::new(alloc, disk, None)?;
+    machine.flush(disk)
+}
+
+// Into the other slot, and then back into the first.
+#[test]
+fn flushes(rt: HostRuntime) -> Result<(), Fail> {
+    let alloc = rt.alloc();
+    let mut disk = MemDisk::new(alloc);
+    let writes = [(2, Write::Insert(b'b', b'c')), (999, Write::Noop)];
+    apply(alloc, &mut disk, false, &writes)?;
+    flush(alloc, &mut disk)?;
+    assert!(rt; lists(disk.get(OTHER_SLOT), &[BEGIN_REGION, PAIRS_REGION]));
+    flush(alloc, &mut disk)?;
+    assert!(rt; holds(&disk, &[BEGIN_REGION, PAIRS_REGION]));
     Ok(())
 }
 
