@@ -14,3 +14,5 @@ mod server;
 mod state;
 #[cfg(test)]
 mod store;
+#[cfg(test)]
+mod turn;

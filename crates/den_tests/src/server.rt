@@ -1,4 +1,5 @@
 //! The server: frames in, bytes out, and the bytes of the files, as docs/FORMATS.md gives them.
+use crate::turn::{IN_A, IN_B, Pieces, Turn, behind, cut, file, holds_turn, is_slot};
 use den_codec::{Error, LogId, RaftNodeConfig, SoloConfig};
 use den_disk::{Clock, Disk, DiskFault, Family, Link, ListClock, MemDisk, MemLink, Part, Place};
 use den_gate::{GateError, GateFile};
@@ -7,9 +8,6 @@ use den_server::StandaloneEngine;
 use den_store::{FileLogStore, LogStore};
 use std::alloc::Global;
 use std::test::Fail;
-
-// Pieces of bytes, one behind the other.
-type Pieces = &'static [&'static [u8]];
 
 // A put of a = b, and a read of a.
 const PUT: &[u8] =
@@ -101,28 +99,15 @@ enum Ending {
     Otherwise,
 }
 
-// The files of the hard state behind a rewrite: the head, the slot that it names with one region, and the empty one.
-#[derive(Clone, Copy)]
-struct Turn {
-    head: &'static [u8],
-    used: Part,
-    other: Part,
-    regions: Pieces,
-}
-
-// Those behind the first opening of a folder, and behind the second.
+// The hard state behind the first opening of a folder, and behind the second.
 const FIRST: Turn = Turn {
-    head: b"\x01",
-    used: Part::B,
-    other: Part::A,
     regions: &[META],
+    ..IN_B
 };
 
 const SECOND: Turn = Turn {
-    head: b"\0",
-    used: Part::A,
-    other: Part::B,
     regions: &[META_OF_SECOND],
+    ..IN_A
 };
 
 // The regions in the slots a of log and state, and the files of the hard state.
@@ -182,44 +167,8 @@ fn link_of(alloc: Global, pieces: Pieces, cuts: &[usize]) -> Result<MemLink, Fai
     Ok(MemLink::new(alloc, input, cuts.to_vec(alloc)?))
 }
 
-// What follows a piece, if it stands in front.
-fn cut<'a>(bytes: &'a [u8], piece: &[u8]) -> Option<&'a [u8]> {
-    if bytes.starts_with(piece) {
-        return bytes.get(piece.len()..);
-    }
-    None
-}
-
-// What follows these pieces, if they stand in front.
-fn behind<'a>(bytes: &'a [u8], pieces: Pieces) -> Option<&'a [u8]> {
-    let mut rest = bytes;
-    for piece in pieces {
-        rest = cut(rest, piece)?;
-    }
-    Some(rest)
-}
-
 fn is_joined(bytes: &[u8], pieces: Pieces) -> bool {
     matches!(behind(bytes, pieces), Some(rest) if rest.is_empty())
-}
-
-// Whether a file is one chunk of these pieces and then zeros.
-fn is_slot(file: &[u8], pieces: Pieces) -> bool {
-    match behind(file, pieces) {
-        None => false,
-        Some(rest) => file.len() == 65_536 && rest.iter().all(|byte| *byte == 0),
-    }
-}
-
-fn file(disk: &MemDisk, family: Family, part: Part) -> &[u8] {
-    disk.get(Place { family, part })
-}
-
-// Whether the files of the hard state are these.
-fn holds_turn(disk: &MemDisk, turn: Turn) -> bool {
-    file(disk, Family::Meta, Part::Head) == turn.head
-        && is_slot(file(disk, Family::Meta, turn.used), turn.regions)
-        && file(disk, Family::Meta, turn.other).is_empty()
 }
 
 // Whether no file of the hard state has a byte.
@@ -244,7 +193,7 @@ fn others_are_empty(disk: &MemDisk) -> bool {
 // Whether the files are these.
 fn holds(disk: &MemDisk, files: Files) -> bool {
     is_slot(disk.get(LOG), files.log)
-        && holds_turn(disk, files.meta)
+        && holds_turn(disk, Family::Meta, files.meta)
         && is_slot(disk.get(STATE), files.state)
         && others_are_empty(disk)
 }
@@ -551,7 +500,7 @@ fn reads_checkpointed<D: Disk>(alloc: Global, disk: &mut D) -> Result<bool, Gate
 
 // Whether a family was written anew once: its slot b is in use, and its slot a is empty.
 fn is_turned(disk: &MemDisk, family: Family) -> bool {
-    file(disk, family, Part::Head) == FIRST.head && file(disk, family, Part::A).is_empty()
+    file(disk, family, Part::Head) == IN_B.head && file(disk, family, Part::A).is_empty()
 }
 
 // The opening takes index 1. Behind index 1000 the state has 1,000 records, and is written anew; behind index 1001 the log

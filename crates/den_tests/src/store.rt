@@ -4,6 +4,7 @@ ghost use Rattle.den_model.specs.Entries.{rise_from};
 ghost use Rattle.den_model.specs.Log.{floor};
 ghost use Rattle.den_journal.specs.Writes.{Stands};
 
+use crate::turn::{IN_A, IN_B, Turn, holds_turn};
 use den_codec::{Command, Entry, HardState, Label, LogId, VotedFor};
 use den_disk::{Disk, Family, MemDisk, Part, Place};
 use den_model::rise_from;
@@ -384,5 +385,79 @@ fn opens_both_stores(rt: HostRuntime) -> Result<(), Fail> {
     assert!(rt; edits(rt.alloc(), &mut disk, both, has)?);
     ends(rt.alloc(), &mut disk)?;
     assert!(rt; opens_both(rt.alloc(), &mut disk, has, Some(state))?);
+    Ok(())
+}
+
+// A log of the entries 1, 2 and 3, purged up to 2: slot b has the purge and an append of entry 3. Then up to 3: slot a has
+// the purge alone.
+const PURGED: Turn = Turn {
+    regions: &[
+        b"\x01\0\0\0\0\0\0\0\x11\x03\0\0\0\0\0\0\0\x02\0\0\0\0\0\0\0\x01",
+        b"\x01\0\0\0\0\0\0\0\x22\x01\0\0\0\0\0\0\0\x01\0\0\0\0\0\0\0\x03\0\0\0\0\0\0\0\x01\0\0\0\0\0\0\x03\xe8\0",
+    ],
+    ..IN_B
+};
+
+const PURGED_AGAIN: Turn = Turn {
+    regions: &[b"\x01\0\0\0\0\0\0\0\x11\x03\0\0\0\0\0\0\0\x03\0\0\0\0\0\0\0\x01"],
+    ..IN_A
+};
+
+// Makes one edit of the log that the disk has.
+fn edits_once<D: Disk>(alloc: Global, disk: &mut D, edit: Edit) -> Result<(), Fail> {
+    let mut log = FileLogStore::new(alloc, disk)?;
+    make(&mut log, disk, alloc, edit)
+}
+
+fn purges_to(alloc: Global, disk: &mut MemDisk, index: u64, turn: Turn) -> Result<bool, Fail> {
+    edits_once(alloc, disk, Edit::Purge(LogId { index, term: 1 }))?;
+    Ok(holds_turn(disk, Family::Log, turn))
+}
+
+#[test]
+fn purges_into_the_other_slot(rt: HostRuntime) -> Result<(), Fail> {
+    let mut disk = MemDisk::new(rt.alloc());
+    edits_once(
+        rt.alloc(),
+        &mut disk,
+        Edit::Persist(&[(1, 1), (2, 1), (3, 1)]),
+    )?;
+    assert!(rt; purges_to(rt.alloc(), &mut disk, 2, PURGED)?);
+    assert!(rt; purges_to(rt.alloc(), &mut disk, 3, PURGED_AGAIN)?);
+    Ok(())
+}
+
+// The hard state of term 3 with a vote, and then of term 4 without one.
+const VOTED: Turn = Turn {
+    regions: &[b"\x01\0\0\0\0\0\0\0\x15\0\0\0\0\0\0\0\x03\x01\0\0\0\x01\0\0\0\0\0\0\0\x03"],
+    ..IN_B
+};
+
+const NOT_VOTED: Turn = Turn {
+    regions: &[b"\x01\0\0\0\0\0\0\0\x09\0\0\0\0\0\0\0\x04\0"],
+    ..IN_A
+};
+
+fn saves_to(
+    alloc: Global,
+    disk: &mut MemDisk,
+    current_term: u64,
+    voted_for: Option<VotedFor>,
+    turn: Turn,
+) -> Result<bool, Fail> {
+    let state = HardState {
+        current_term,
+        voted_for,
+    };
+    saves(alloc, disk, &state)?;
+    Ok(holds_turn(disk, Family::Meta, turn))
+}
+
+#[test]
+fn saves_into_the_other_slot(rt: HostRuntime) -> Result<(), Fail> {
+    let mut disk = MemDisk::new(rt.alloc());
+    let vote = VotedFor { id: 1, term: 3 };
+    assert!(rt; saves_to(rt.alloc(), &mut disk, 3, Some(vote), VOTED)?);
+    assert!(rt; saves_to(rt.alloc(), &mut disk, 4, None, NOT_VOTED)?);
     Ok(())
 }
