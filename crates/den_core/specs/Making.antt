@@ -20,13 +20,14 @@ use Rattle.den_core.specs.Spared.{SparesFamily}
 
 -- What is seen of a stepper at a moment: all that it holds; its log; how many entries the log may hold behind a step,
 -- which no call changes; its weight, what its files take or would take when written anew, with what the calls since
--- handed it, at most; that it can go on; that a refusal left it of no more use; and that its files lie on the disk as its
--- last call left them.
+-- handed it, at most; that its state machine is short: few records follow the last checkpoint; that it can go on; that a
+-- refusal left it of no more use; and that its files lie on the disk as its last call left them.
 pub record Seen : Type 1 where
   pub kv : Kv
   pub log : Log
   pub most : ℕ
   pub weight : ℕ
+  pub short : Type 0
   pub ready : Type 0
   pub failed : Type 0
   pub rests : Content → Type 0
@@ -66,6 +67,7 @@ module _ {D : Type 0} (disk : Ghosts D) where
       pub same_log : now.log ≡ was.log
       pub same_weight : now.weight ≡ was.weight
       pub same_disk : new ≡ old
+      pub stays_short : was.short → now.short
       pub stays_ready : was.ready → now.ready
       pub stays_at_rest : Tells disk old → was.rests (disk.content old) → now.rests (disk.content new)
 
@@ -112,7 +114,7 @@ module _ {D : Type 0} (disk : Ghosts D) where
       pub done : OnOk result (Changed to entries rise)
       pub refused : IfErr result (IsRefused says rise (HasJoined was.log entries now.log))
 
-    -- A call that serves frames. A log that was short at entry is at Ok. A full disk is told by the weight that it comes to
+    -- A call that serves frames. A log that was short at entry is at Ok, and so is a state machine. A full disk is told by the weight that it comes to
     -- at most. The link may refuse it too, where its count of faults rose. The snapshot's files are left alone.
     pub record Serves {T : Type 0} (says : Says) (link_faulted : Type 0) (most : ℕ) (result : Result T Error) : Type 0 where
       pub goes_on : GoesOn disk old new
@@ -121,5 +123,6 @@ module _ {D : Type 0} (disk : Ghosts D) where
       pub ready : OnOk result now.ready
       pub rests : OnOk result (Tells disk old → now.rests (disk.content new))
       pub short : OnOk result (LogIsShort was → LogIsShort now)
+      pub state_short : OnOk result (was.short → now.short)
       pub refused : IfErr result (IsServeRefusal (Faulted disk old new) link_faulted (disk.kind old).limit)
       pub full : IfErr result (IsFullBy (Tells disk old × says.told) (disk.content new).reading (disk.kind old).limit most)

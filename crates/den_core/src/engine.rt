@@ -145,6 +145,7 @@ fn commit<D: Disk, G: LogStore<D>, T: MetaStore<D>, M: StateMachine<D>>(
     ensures logged { OnOk result ((G.shown engine.new.log).value
         ≡ changed (G.shown engine.old.log).value (Append (next_entry (⟦<Engine<G, T, M> as Stepper<D>>⟧.seen engine.old).kv time command ∷ []))) }
     ensures ends { OnOk result (HasTermOf (G.shown engine.new.log).value (M.map engine.new.state).mark) }
+    ensures state_short { OnOk result (M.short engine.new.state) }
     ensures running { engine.new.running ≡ engine.old.running }
     ensures ready { OnOk result (⟦<Engine<G, T, M> as Stepper<D>>⟧.seen engine.new).ready }
     ensures meta { engine.new.meta ≡ engine.old.meta }
@@ -179,6 +180,7 @@ fn trim<D: Disk, G: LogStore<D>, T: MetaStore<D>, M: StateMachine<D>>(
         [] trim_rise ((G.shown engine.new.log).value ≡ (G.shown engine.old.log).value) result }
     ensures trimmed { OnOk result ((G.shown engine.new.log).value ≡ trimmed engine.old.most (M.map engine.old.state).mark (G.shown engine.old.log).value) }
     ensures short { OnOk result (LogIsShort (⟦<Engine<G, T, M> as Stepper<D>>⟧.seen engine.new)) }
+    ensures state { engine.new.state ≡ engine.old.state }
     ensures failed { IfErr result (λ e. engine.new.failed ≡ true) }
     ensures running { engine.new.running ≡ engine.old.running }
     ensures meta { engine.new.meta ≡ engine.old.meta }
@@ -214,6 +216,7 @@ fn commit_and_trim<D: Disk, G: LogStore<D>, T: MetaStore<D>, M: StateMachine<D>>
     ensures trimmed { OnOk result ((⟦<Engine<G, T, M> as Stepper<D>>⟧.seen engine.new).log
         ≡ logged_after (⟦<Engine<G, T, M> as Stepper<D>>⟧.seen engine.old).most (mark_of (⟦<Engine<G, T, M> as Stepper<D>>⟧.seen engine.new).kv.durable) (⟦<Engine<G, T, M> as Stepper<D>>⟧.seen engine.old).log (next_entry (⟦<Engine<G, T, M> as Stepper<D>>⟧.seen engine.old).kv time command ∷ [])) }
     ensures short { OnOk result (LogIsShort (⟦<Engine<G, T, M> as Stepper<D>>⟧.seen engine.new)) }
+    ensures state_short { OnOk result (M.short engine.new.state) }
     ensures running { engine.new.running ≡ engine.old.running }
     ensures ready { OnOk result (⟦<Engine<G, T, M> as Stepper<D>>⟧.seen engine.new).ready }
     ensures meta { engine.new.meta ≡ engine.old.meta }
@@ -244,6 +247,7 @@ fn answer<D: Disk, G: LogStore<D>, T: MetaStore<D>, M: StateMachine<D>>(
     ensures trimmed { OnOk result ((⟦<Engine<G, T, M> as Stepper<D>>⟧.seen engine.new).log
         ≡ logged_after (⟦<Engine<G, T, M> as Stepper<D>>⟧.seen engine.old).most (mark_of (⟦<Engine<G, T, M> as Stepper<D>>⟧.seen engine.new).kv.durable) (⟦<Engine<G, T, M> as Stepper<D>>⟧.seen engine.old).log (answer (⟦<Engine<G, T, M> as Stepper<D>>⟧.seen engine.old).kv time frame).logged) }
     ensures short { OnOk result (LogIsShort (⟦<Engine<G, T, M> as Stepper<D>>⟧.seen engine.old) → LogIsShort (⟦<Engine<G, T, M> as Stepper<D>>⟧.seen engine.new)) }
+    ensures state_short { OnOk result ((⟦<Engine<G, T, M> as Stepper<D>>⟧.seen engine.old).short → (⟦<Engine<G, T, M> as Stepper<D>>⟧.seen engine.new).short) }
     ensures ready { OnOk result (⟦<Engine<G, T, M> as Stepper<D>>⟧.seen engine.new).ready }
 {
     match ask::<D, M>(engine.alloc, &engine.state, &engine.running, frame)? {
@@ -263,6 +267,7 @@ impl<D: Disk, G: LogStore<D>, T: MetaStore<D>, M: StateMachine<D>> Stepper<D> fo
       log = (G.shown e.log).value;
       most = e.most;
       weight = (G.shown e.log).weight + (T.shown e.meta).weight + (M.shown e.state).weight;
+      short = M.short e.state;
       ready = (e.failed ≡ false) × IsReady (G.shown e.log).ready (T.shown e.meta).ready (M.shown e.state).ready (G.shown e.log).value (M.map e.state) e.running;
       failed = HasFailed e.failed (G.shown e.log).ready (T.shown e.meta).ready (M.shown e.state).ready;
       rests = λ content. AllRest ((G.shown e.log).rests content) ((T.shown e.meta).rests content) (AtRest (M.shown e.state) (M.map e.state) content);

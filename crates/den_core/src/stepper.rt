@@ -37,7 +37,8 @@ pub trait Stepper<D: Disk>: Drop {
             ((seen self.new).kv.durable.term ≡ (seen self.old).kv.durable.term + 1) result }
         ensures log { OnOk result ((seen self.new).log
             ≡ logged_after (seen self.old).most (mark_of (seen self.new).kv.durable) (seen self.old).log (logged (seen self.old).kv (opening (seen self.old).kv time))) }
-        ensures short { OnOk result (LogIsShort (seen self.new)) };
+        ensures short { OnOk result (LogIsShort (seen self.new)) }
+        ensures state_short { OnOk result (seen self.new).short };
 
     /// Makes a frame's steps, and answers what is to be sent. A log that was short stays so: where the steps log an entry it
     /// is purged up to the mark, only where its indices run over too many. Where memory is wanting behind a write, the
@@ -50,6 +51,7 @@ pub trait Stepper<D: Disk>: Drop {
         ensures log { OnOk result ((seen self.new).log
             ≡ logged_after (seen self.old).most (mark_of (seen self.new).kv.durable) (seen self.old).log (logged (seen self.old).kv (turn (seen self.old).kv frame time))) }
         ensures short { OnOk result (LogIsShort (seen self.old) → LogIsShort (seen self.new)) }
+        ensures state_short { OnOk result ((seen self.old).short → (seen self.new).short) }
         ensures answer { IfOk result (λ out. frames_of out.reply out.events ≡ output (seen self.old).kv (turn (seen self.old).kv frame time)) };
 
     /// Whether a refusal left it of no more use. It is opened anew then.

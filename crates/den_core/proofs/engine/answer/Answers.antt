@@ -43,7 +43,7 @@ returns-in_err-command-clause-makes g c =
       refused = if_err_three c.from_residual.result _ _ _ _ (λ e cause full left. record { cause = cause; full = full; left = left }) cause full
           (at_exit c.from_residual.result c.in_err-command.field-0.0 _ c.from_residual.ensures.1
           (memory_stays c.in_err-command.field-0.0 _ _ _ c.in_err-command.ensures.refused
-          (record { same_kv = refl; same_log = refl; same_weight = refl; same_disk = refl; stays_ready = λ ready. ready; stays_at_rest = λ told rests. rests })));
+          (record { same_kv = refl; same_log = refl; same_weight = refl; same_disk = refl; stays_short = λ short. short; stays_ready = λ ready. ready; stays_at_rest = λ told rests. rests })));
     }
 
 pub returns-in-Say-clause-makes : goal.returns-in-Say-clause-makes

@@ -64,6 +64,7 @@ returns-in_err-persist_entries-clause-makes g c =
               same_log = same.same_value;
               same_weight = ap (λ n. n + (g.T.MetaStore.shown engine.meta).weight + (g.M.StateMachine.shown engine.state).weight) same.same_weight;
               same_disk = same.same_disk;
+              stays_short = λ short. short;
               stays_ready = λ ready. (
                 ready.0,
                 record {

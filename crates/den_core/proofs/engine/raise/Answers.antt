@@ -58,6 +58,7 @@ returns-clause-makes g c =
               same_log = refl;
               same_weight = ap (λ n. (g.G.LogStore.shown engine.log).weight + n + (g.M.StateMachine.shown engine.state).weight) same.same_weight;
               same_disk = same.same_disk;
+              stays_short = λ short. short;
               stays_ready = λ ready. (ready.0, record { log = ready.1.log; meta = same.ready; state = ready.1.state; caught_up = ready.1.caught_up; plain = ready.1.plain });
               stays_at_rest = λ told rests. record {
                 log = subst (λ d. (g.G.LogStore.shown engine.log).rests (D.content d)) (sym same.same_disk) rests.log;

@@ -77,6 +77,7 @@ returns-clause-serves g c =
       snapshot = spares_twice _ _ _ _ _ _ _ _ _ c.open_at.ensures.makes.goes_on serves.goes_on c.open_at.ensures.makes.snapshot serves.snapshot;
       same_most = serves.same_most ∙ c.open_at.ensures.makes.same_most;
       short = on_ok_weaker c.serve.result (λ short any. short c.in_ok-open_at.ensures.short) serves.short;
+      state_short = on_ok_weaker c.serve.result (λ short any. short c.in_ok-open_at.ensures.state_short) serves.state_short;
       ready = serves.ready;
       rests = on_ok_weaker c.serve.result (λ rests told. rests (subst (λ (k : Kind). IsTrue k.tells) (sym c.open_at.ensures.makes.goes_on.same) told)) serves.rests;
       refused = refused;

@@ -25,6 +25,7 @@ invariant-frames g l =
       weight : (S.seen l.stepper).weight ≤ served_weight (S.seen l.fn.stepper).weight (L.taken l.link - L.taken l.fn.link);
       most : (S.seen l.stepper).most ≡ (S.seen l.fn.stepper).most;
       short : LogIsShort (S.seen l.fn.stepper) → LogIsShort (S.seen l.stepper);
+      state_short : (S.seen l.fn.stepper).short → (S.seen l.stepper).short;
       ready : (S.seen l.stepper).ready;
       rests : IsTrue (D.kind l.fn.disk).tells → (S.seen l.stepper).rests (D.content l.disk);
       so_far : Tells (D.kind l.fn.disk).tells (L.tells l.fn.link) (C.tells l.clock)
