@@ -4,5 +4,6 @@ pub mod Chunk
 pub mod Cleanup
 pub mod FileState
 pub mod Folds
+pub mod Light
 pub mod Machine
 pub mod Stored
