@@ -254,6 +254,7 @@ impl FileStateMachine {
 impl<D: Disk> StateMachine<D> for FileStateMachine {
     ghost use Rattle.std.specs.Prelude.{refl};
     ghost use Rattle.den_state.specs.FileState.{HasShortTail, map_held, state_lies, state_map, state_settings, state_shown};
+    ghost use Rattle.den_state.specs.Light.{weight_light};
 
     ghost shown = { state_shown };
 
@@ -273,6 +274,8 @@ impl<D: Disk> StateMachine<D> for FileStateMachine {
     ghost seen = { λ s. refl };
 
     ghost below = { λ s. s.below };
+
+    ghost light = { λ s chunk n is. weight_light s.journal.gate.end s.journal.held.map chunk n is };
 
     /// A chunk that is refused for its order or for want of a lease leaves all as it was, as does one without entries.
     /// Any other adds one region to the journal, or writes the map anew behind it.

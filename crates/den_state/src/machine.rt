@@ -1,8 +1,10 @@
 //! What a state machine is.
-ghost use Rattle.std.specs.Prelude.{◌≡◌, ◌==◌, ◌≤◌, ◌↔◌, ◌⊎◌, ◌&&◌, true, false, [], ◌∷◌, max, length, Option, Some, None, IfSome, IsOk, OnOk, IfOk, IfErr, option_map, Err};
+ghost use Rattle.std.specs.Prelude.{◌≡◌, ◌==◌, ◌≤◌, ◌+◌, ◌↔◌, ◌⊎◌, ◌&&◌, ℕ, true, false, List, [], ◌∷◌, max, length, Option, Some, None, IfSome, IsOk, OnOk, IfOk, IfErr, option_map, Err};
 ghost use Rattle.den_disk.specs.declared.place.Family.TheVariants.{State as state_family};
 ghost use Rattle.den_disk.specs.declared.place.Place.{Place};
+ghost use Rattle.den_model.specs.Entries.{LogEntry};
 ghost use Rattle.den_model.specs.MapState.{MapState, map_applied_all, results_of, part_of};
+ghost use Rattle.den_model.specs.Sizes.{entries_size, store_rise};
 ghost use Rattle.den_model.specs.declared.journal.JournalRecord.TheVariants.{Cleanup};
 ghost use Rattle.den_model.specs.declared.region.StateRegion.TheVariants.{Mark, Records};
 ghost use Rattle.den_model.specs.Spelling.{state_region_word};
@@ -20,7 +22,7 @@ ghost use Rattle.den_journal.specs.Lies.{Lies};
 ghost use Rattle.den_journal.specs.Shown.{Held, Shown};
 ghost use Rattle.den_journal.specs.Writes.{Stands, Writes};
 ghost use Rattle.den_state.specs.Changes.{chunk_change, cleanup_change, mark_change};
-ghost use Rattle.den_state.specs.Checkpoint.{renew_change};
+ghost use Rattle.den_state.specs.Checkpoint.{IsCheckpointSize, renew_change};
 ghost use Rattle.den_state.specs.Chunk.{refusal_of_chunk};
 ghost use Rattle.den_state.specs.Cleanup.{cleaned_where, removed_where};
 ghost use Rattle.den_state.specs.Machine.{Adds, AddsOrRenews, Closes, HoldsCheckpoint, Settings, StaysAs};
@@ -222,4 +224,8 @@ pub trait StateMachine<D: Disk>: Drop {
 
     /// The stored mark is not above the applied one, which may have moved on since.
     ghost below: { (s : Self) → (shown s).value.mark.index ≤ (map s).mark.index };
+
+    /// No payload of a checkpoint that a chunk may ask for is larger than the weight with the chunk's rise.
+    ghost light: { (s : Self) (chunk : List LogEntry) (n : ℕ) → IsCheckpointSize (map_applied_all (shown s).value chunk) n
+        → n ≤ (shown s).weight + store_rise (entries_size chunk) };
 }
