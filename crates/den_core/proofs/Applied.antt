@@ -20,6 +20,7 @@ use Rattle.den_journal.specs.Shown.{Held, Shown}
 use Rattle.den_journal.specs.Writes.{Faulted, GoesOn, Moves, Tells, Writes}
 use Rattle.den_journal.proofs.Moving.{goes_nowhere, moves_nothing}
 use Rattle.den_state.specs.Changes.{chunk_change}
+use Rattle.den_state.specs.Checkpoint.{IsCheckpointSize}
 use Rattle.den_state.specs.Chunk.{IsChunkRefusal, refusal_of_chunk}
 use Rattle.den_state.specs.Machine.{AtRest}
 
@@ -108,11 +109,12 @@ module _ {D T : Type 0} (disk : Ghosts D) (holds : Held MapState) (was now : Sho
       by_refusal (IfErr result P) (λ e is r d. subst (λ (x : Result T Error). IfErr x P) (sym r) (turned leased mark chunk (Faulted disk old new) (disk.kind old).limit e is))
       (λ none w. IfErr-weaker result _ P (λ e r. disk_refused leased mark chunk (Faulted disk old new) (disk.kind old).limit e none r.cause) w.refused)
 
-  pub chunk_full : IfErr result (IsFullBy (Tells disk old × holds.told) (disk.content new).reading (disk.kind old).limit (was.weight + store_rise (entries_size chunk)))
-  chunk_full =
+  pub chunk_full : ((n : ℕ) → IsCheckpointSize (map_applied_all was.value chunk) n → n ≤ was.weight + store_rise (entries_size chunk))
+      → IfErr result (IsFullBy (Tells disk old × holds.told) (disk.content new).reading (disk.kind old).limit (was.weight + store_rise (entries_size chunk)))
+  chunk_full drafted =
       let P : Error → Type 0 = IsFullBy (Tells disk old × holds.told) (disk.content new).reading (disk.kind old).limit (was.weight + store_rise (entries_size chunk)) in
       by_refusal (IfErr result P) (λ e is r d. subst (λ (x : Result T Error). IfErr x P) (sym r) (turned_light leased mark chunk (Tells disk old × holds.told) (disk.content new).reading (disk.kind old).limit (was.weight + store_rise (entries_size chunk)) e is))
-      (λ none w. IfErr-weaker result _ P (λ e r. full_by _ state_family _ _ _ _ _ e state_served (λ n is. let light = light_chunk was.value chunk in omega (arith, light, is)) (λ n never. absurd never) r.full r.heavy) w.refused)
+      (λ none w. IfErr-weaker result _ P (λ e r. full_by _ state_family _ _ _ _ _ e state_served (λ n is. let light = light_chunk was.value chunk in omega (arith, light, is)) drafted r.full r.heavy) w.refused)
 
 -- a state machine whose files give the map that a chunk made
 pub at_rest_ok : {T : Type 0} (Told : Type 0) {n : ℕ} (now : Shown MapState) (map : MapState) (content : Content) (result : Result T Error) → OnOk result (Told → now.rests content) → OnOk result (1 ≤ n → now.value ≡ map) → 1 ≤ n
