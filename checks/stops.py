@@ -6,14 +6,13 @@ import shutil
 import signal
 import time
 
-from serving import WRITTEN, Server, as_nobody, bodies, fail, files_of, owned, put, run, say, values
+from serving import WRITTEN, Server, as_nobody, bodies, fail, owned, put, run, say, values
 
 KILLS, FOLDERS, PUTS = 50, 5, 1000
 VALUE = b"v" * 2000
 # A checkpoint and a purge come once in a thousand puts: these kills come where they are due.
-FEW, REWRITES, BEFORE, BEHIND = 8, 120, 985, 40
-# The thousandth record is that of put 13 behind them, since each of the two openings has one; the log is too long behind put 14.
-DUE = [11, 12, 12, 12, 13, 13, 13, 14]
+FEW, REWRITES, BEFORE, BEHIND = 8, 30, 985, 40
+FAMILIES = ["log", "meta", "state"]
 
 
 def plain():
@@ -36,12 +35,12 @@ def count_of(answers):
     return len(answers)
 
 
-def stopped(program, folder, frames, answers, how, pause=0.02):
-    """How many of the frames were answered by a run that a signal stops behind so many answers, or within the pause."""
+def stopped(program, folder, frames, answers, how):
+    """How many of the frames were answered by a run that a signal stops behind so many answers."""
     server = Server(program, folder, plain)
     server.feed(frames)
     server.read_on(answers)
-    time.sleep(0 if answers else random.random() * pause)
+    time.sleep(0 if answers else random.random() / 50)
     status, answered = server.end(how)
     if status != -how:
         fail(f"status {status} where {how.name} stopped the server")
@@ -74,14 +73,29 @@ def kills(program, room, draw):
     say(f"{KILLS} kills in the midst of {PUTS} puts each, {answered} puts were answered and none is lost")
 
 
-def rewritten(folder):
-    """Whether a family's files are those of a rewrite that was not ended: the slot that its head does not name has bytes."""
-    files = files_of(folder)
-    for family in ("log", "meta", "state"):
-        other = "a" if files.get(f"{family}.head", b"")[:1] == b"\x01" else "b"
-        if files.get(f"{family}.{other}"):
-            return True
-    return False
+def other_slot(folder, family):
+    """The slot that a family's head does not name: a rewrite fills it, and then empties the one that was named."""
+    head = os.path.join(folder, f"{family}.head")
+    named = open(head, "rb").read(1) if os.path.exists(head) else b""
+    return os.path.join(folder, family + (".a" if named == b"\x01" else ".b"))
+
+
+def has_bytes(path):
+    return os.path.exists(path) and os.path.getsize(path) > 0
+
+
+def killed_inside(program, folder, frames, family, pause):
+    """How many of the frames were answered by a run that is killed a pause behind the first bytes of a family's rewrite."""
+    slot = other_slot(folder, family)
+    server = Server(program, folder, plain)
+    server.feed(frames)
+    while not has_bytes(slot) and server.process.poll() is None:
+        pass
+    time.sleep(pause)
+    status, answered = server.end(signal.SIGKILL)
+    if status != -signal.SIGKILL or not has_bytes(slot):
+        fail(f"status {status} where {family} is to be written anew")
+    return count_of(answered)
 
 
 def rewrites(program, room, draw):
@@ -97,10 +111,9 @@ def rewrites(program, room, draw):
         shutil.copytree(ready, folder)
         owned(folder)
         new = [b"%d.%d" % (kill + 1, n) for n in range(BEHIND)]
-        # Every second is killed in its opening, which writes the hard state anew.
-        answers = 0 if kill % 2 else draw.choice(DUE)
-        count = stopped(program, folder, list(map(put, keys[BEFORE:], new)), answers, signal.SIGKILL, 0.006)
-        fell += rewritten(folder)
+        pause = draw.choice([0, 0.001]) * draw.random()
+        count = killed_inside(program, folder, list(map(put, keys[BEFORE:], new)), FAMILIES[kill % 3], pause)
+        fell += any(has_bytes(other_slot(folder, family)) for family in FAMILIES)
         answered += count
         check_few(program, folder, keys, [b"0.%d" % n for n in range(BEFORE)] + new, BEFORE + count)
         shutil.rmtree(folder)
