@@ -7,7 +7,7 @@ use Rattle.den_model.specs.declared.journal.JournalRecord.{JournalRecord}
 use Rattle.den_model.specs.declared.journal.JournalRecord.TheVariants.{Cleanup, CasFailed, Delete, Insert, Noop}
 use Rattle.den_model.specs.declared.log_id.LogId.{LogId}
 use Rattle.den_model.specs.declared.region.StateRegion.{StateRegion}
-use Rattle.den_model.specs.declared.region.StateRegion.TheVariants.{Mark, Records}
+use Rattle.den_model.specs.declared.region.StateRegion.TheVariants.{Begin, Mark, Records}
 use Rattle.den_model.specs.Apply.{succeeds, with_pair}
 use Rattle.den_model.specs.Entries.{LogEntry}
 use Rattle.den_model.specs.MapState.{MapState, part_of, map_after, map_after_record, map_after_records, map_applied, map_applied_all, results_of}
@@ -69,6 +69,10 @@ lawful_by s r next is = is ∙ ap (λ m. Some m) (sym (ap (map_by s.map) is))
 pub mark_after : (s : MapState) (index term : ℕ) → s.mark.index ≤ index → map_after s (Mark index term) ≡ Some (record s { mark = record { index = index; term = term } })
 unfolding map_after
 mark_after s index term le = rw (le-leb s.mark.index index le) refl
+
+pub begin_after : (s : MapState) (index term : ℕ) → map_after s (Begin index term) ≡ Some (record { pairs = []; expiries = []; mark = record { index = index; term = term } })
+unfolding map_after
+begin_after s index term = refl
 
 pub cleanup_after : (s : MapState) (moment : ℕ) → map_after s (Records (Cleanup moment ∷ [])) ≡ Some (cleaned_map moment s)
 unfolding map_after map_after_records map_after_record

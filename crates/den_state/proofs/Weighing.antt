@@ -5,7 +5,7 @@ use Rattle.den_model.specs.declared.command.Command.{Command}
 use Rattle.den_model.specs.declared.command.Command.TheVariants as command
 use Rattle.den_model.specs.declared.journal.JournalRecord.{JournalRecord}
 use Rattle.den_model.specs.declared.journal.JournalRecord.TheVariants as journal
-use Rattle.den_model.specs.declared.region.StateRegion.TheVariants.{Records, Mark}
+use Rattle.den_model.specs.declared.region.StateRegion.TheVariants.{Begin, Records, Mark}
 use Rattle.den_model.specs.Apply.{succeeds}
 use Rattle.den_model.specs.Entries.{LogEntry}
 use Rattle.den_model.specs.MapState.{MapState, part_of, map_applied}
@@ -13,6 +13,7 @@ use Rattle.den_model.specs.Sizes.{entries_size, store_rise}
 use Rattle.den_model.specs.Spelling.{u64_word, blob_word, option_word, command_word, entry_word, record_fields, record_word, state_region_word}
 use Rattle.den_model.proofs.Numbers.{length_u64_word}
 use Rattle.den_map.specs.Journal.{expiry_of, recorded_as, recorded, all_recorded}
+use Rattle.den_map.proofs.Checkpoints.{begin_long}
 
 -- ---- a record
 
@@ -88,3 +89,6 @@ length_mark index term = simp (length-append, length_u64_word) (omega arith)
 
 pub light_mark : (index term : ℕ) → 9 + 2 * length (state_region_word (Mark index term)) ≤ store_rise 0
 light_mark index term = omega (arith, length_mark index term)
+
+pub light_begin : (index term : ℕ) → 9 + 2 * length (state_region_word (Begin index term)) ≤ store_rise 0
+light_begin index term = omega (arith, begin_long index term)

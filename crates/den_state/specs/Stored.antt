@@ -3,7 +3,7 @@ use Rattle.std.specs.Prelude.{◌≡◌, ℕ, List, [], ◌∷◌, Option, Some,
 use Rattle.den_model.specs.declared.journal.JournalRecord.{JournalRecord}
 use Rattle.den_model.specs.declared.journal.JournalRecord.TheVariants.{Cleanup}
 use Rattle.den_model.specs.declared.region.StateRegion.{StateRegion}
-use Rattle.den_model.specs.declared.region.StateRegion.TheVariants.{Mark, Records}
+use Rattle.den_model.specs.declared.region.StateRegion.TheVariants.{Begin, Mark, Pairs, Records}
 use Rattle.den_model.specs.MapState.{MapState, empty_map, map_after, map_after_payload}
 use Rattle.den_model.specs.Regions.{Region}
 use Rattle.den_map.specs.Tail.{tail_after, tail_after_payload}
@@ -41,8 +41,9 @@ abbrev pub cleanup_of : List JournalRecord → Option ℕ
 cleanup_of (Cleanup moment ∷ []) = Some moment
 cleanup_of _ = None
 
--- a region that may want memory once it is written: a mark and a cleanup do not
+-- a region that may want memory once it is written: a beginning, a mark and a cleanup do not
 abbrev pub MayWant : StateRegion → Type 0
+MayWant (Begin index term) = ⊥
 MayWant (Mark index term) = ⊥
 MayWant (Records records) = cleanup_of records ≡ None
-MayWant r = Unit {0}
+MayWant (Pairs pairs) = Unit {0}

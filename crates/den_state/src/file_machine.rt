@@ -345,6 +345,19 @@ impl<D: Disk> StateMachine<D> for FileStateMachine {
         self.checkpoint(disk)
     }
 
+    /// Writes the journal anew as one region, which begins with no entry.
+    fn reset(&mut self, disk: &mut D) -> Result<(), Error> {
+        let region = StateRegion::Begin { index: 0, term: 0 };
+        match self.journal.rewrite(disk, region, None) {
+            Ok(()) => {
+                self.applied = LogId { index: 0, term: 0 };
+                self.metadata = None;
+                Ok(())
+            }
+            Err(error) => Err(error),
+        }
+    }
+
     fn has_lease(&self) -> bool {
         self.leased
     }

@@ -4,7 +4,8 @@
 //! `StateMachine` is the trait, and `FileStateMachine` its body: a journal (den_journal) of the map with the stored mark
 //! (`StoredMap`), and beside it the applied mark, whether a lease is configured, whether it runs, and what was last said of
 //! a snapshot. A chunk of entries is one region of their records, a mark one region, a cleanup one region. Where 1,000
-//! records follow the last beginning, the call that added the last of them writes the map anew: a checkpoint.
+//! records follow the last beginning, the call that added the last of them writes the map anew: a checkpoint. A reset writes
+//! the journal anew as a beginning with no entry.
 //!
 //! Invariants:
 //!

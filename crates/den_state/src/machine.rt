@@ -3,7 +3,7 @@ ghost use Rattle.std.specs.Prelude.{◌≡◌, ◌==◌, ◌≤◌, ◌+◌, ◌
 ghost use Rattle.den_disk.specs.declared.place.Family.TheVariants.{State as state_family};
 ghost use Rattle.den_disk.specs.declared.place.Place.{Place};
 ghost use Rattle.den_model.specs.Entries.{LogEntry};
-ghost use Rattle.den_model.specs.MapState.{MapState, map_applied_all, results_of, part_of};
+ghost use Rattle.den_model.specs.MapState.{MapState, empty_map, map_applied_all, results_of, part_of};
 ghost use Rattle.den_model.specs.Sizes.{entries_size, store_rise};
 ghost use Rattle.den_model.specs.declared.journal.JournalRecord.TheVariants.{Cleanup};
 ghost use Rattle.den_model.specs.declared.region.StateRegion.TheVariants.{Mark, Records};
@@ -21,7 +21,7 @@ ghost use Rattle.den_journal.specs.Causes.{IsOfDisk};
 ghost use Rattle.den_journal.specs.Lies.{Lies};
 ghost use Rattle.den_journal.specs.Shown.{Held, Shown};
 ghost use Rattle.den_journal.specs.Writes.{Stands, Writes};
-ghost use Rattle.den_state.specs.Changes.{chunk_change, cleanup_change, mark_change};
+ghost use Rattle.den_state.specs.Changes.{chunk_change, cleanup_change, mark_change, reset_change};
 ghost use Rattle.den_state.specs.Checkpoint.{IsCheckpointSize, renew_change};
 ghost use Rattle.den_state.specs.Chunk.{refusal_of_chunk};
 ghost use Rattle.den_state.specs.Cleanup.{cleaned_where, removed_where};
@@ -144,6 +144,19 @@ pub trait StateMachine<D: Disk>: Drop {
         ensures checkpoint { OnOk result (HoldsCheckpoint D.Disk (slot self.new) disk.old disk.new (shown self.old).value) }
         ensures failed { IfErr result (λ e. (shown self.new).ready → ⊥) }
         ensures settings { settings self.new ≡ settings self.old };
+
+    /// Removes all pairs and expiries, both marks and what was last said of a snapshot, and writes its files anew: no entry
+    /// is applied then. A crash inside leaves the old map with the old stored mark, or the empty one; want of memory leaves
+    /// all as it was, and a refusal of the disk ends its use.
+    fn reset(&mut self, disk: &mut D) -> Result<(), Error>
+        requires stands { Stands D.Disk (shown self.old) disk.old }
+        ensures writes { Writes D.Disk (shown self.old) (shown self.new) disk.old disk.new state_family holds reset_change result }
+        ensures map { OnOk result (map self.new ≡ empty_map) }
+        ensures same { IfErr result (λ e. map self.new ≡ map self.old) }
+        ensures short { OnOk result (short self.new) }
+        ensures checkpoint { OnOk result (HoldsCheckpoint D.Disk (slot self.new) disk.old disk.new empty_map) }
+        ensures settings { OnOk result (settings self.new ≡ record (settings self.old) { metadata = None }) }
+        ensures settings_kept { IfErr result (λ e. settings self.new ≡ settings self.old) };
 
     /// Whether a refusal left it of no more use. It is opened anew then.
     fn is_failed(&self) -> bool

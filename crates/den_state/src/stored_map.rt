@@ -92,10 +92,15 @@ impl Folded for StoredMap {
         Ok(())
     }
 
-    // A mark and a cleanup take no memory.
+    // A beginning, a mark and a cleanup take no memory.
     fn settle(&mut self, region: StateRegion) -> Result<(), AllocError> {
         self.tail = tail_after(self.tail, &region);
         match &region {
+            StateRegion::Begin { index, term } => {
+                let (index, term) = (*index, *term);
+                self.map = Map::at(self.alloc, LogId { index, term });
+                Ok(())
+            }
             StateRegion::Mark { index, term } => {
                 self.map.set_mark(LogId {
                     index: *index,
@@ -110,9 +115,7 @@ impl Folded for StoredMap {
                 }
                 None => self.map.follow(self.alloc, &region),
             },
-            StateRegion::Begin { .. } | StateRegion::Pairs { .. } => {
-                self.map.follow(self.alloc, &region)
-            }
+            StateRegion::Pairs { .. } => self.map.follow(self.alloc, &region),
         }
     }
     // What follows the last Begin region is counted anew.

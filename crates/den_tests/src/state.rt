@@ -1,5 +1,5 @@
-//! The state machine: worked rows of swaps, refusals, marks, a scan, leases and the bytes of regions, and random work with
-//! stops in its midst beside a plain list of rows.
+//! The state machine: worked rows of swaps, refusals, marks, a scan, leases, a reset and the bytes of regions, and random
+//! work with stops in its midst beside a plain list of rows.
 ghost use Rattle.std.specs.Prelude.{◌≡◌, [], IfSome, OnOk};
 ghost use Rattle.den_journal.specs.Writes.{Stands};
 
@@ -59,6 +59,9 @@ const BEGIN_REGION: &[u8] = b"\x01\0\0\0\0\0\0\0\x11\x01\0\0\0\0\0\0\x03\xe7\0\0
 
 const PAIRS_REGION: &[u8] =
     b"\x01\0\0\0\0\0\0\0\x2b\x02\0\0\0\0\0\0\0\x01\0\0\0\0\0\0\0\x01b\0\0\0\0\0\0\0\x01c\0\0\0\0\0\0\0\x01\0\0\0\0\0\0\0\0";
+
+// A region that begins with no entry.
+const NOTHING_REGION: &[u8] = b"\x01\0\0\0\0\0\0\0\x11\x01\0\0\0\0\0\0\0\0\0\0\0\0\0\0\0\0";
 
 // What an entry does, where keys and values are single bytes.
 #[derive(Clone, Copy, Debug)]
@@ -658,6 +661,37 @@ fn flag_and_metadata(rt: HostRuntime) -> Result<(), Fail> {
     assert!(rt; keeps_metadata::<MemDisk, FileStateMachine>(&mut machine));
     assert!(rt; is_as::<MemDisk, FileStateMachine>(&machine, [None; 5], NO_MARK));
     assert!(rt; disk.get(SLOT).is_empty());
+    Ok(())
+}
+
+// Whether a reset leaves it without pair, expiry and mark, and without what was said of a snapshot.
+fn resets<D: Disk, M: StateMachine<D>>(machine: &mut M, disk: &mut D) -> Result<bool, Error>
+    requires stands { Stands D.Disk (M.shown machine.old) disk.old }
+{
+    machine.update_last_snapshot_metadata(said(2));
+    machine.reset(disk)?;
+    let bare = machine.is_empty() && !machine.holds_expiry();
+    Ok(bare && machine.last_applied() == NO_MARK && machine.snapshot_metadata().is_none())
+}
+
+fn resets_anew<D: Disk>(alloc: Global, disk: &mut D) -> Result<bool, Error> {
+    let mut machine = FileStateMachine::new(alloc, disk, lease_of(alloc, true))?;
+    resets(&mut machine, disk)
+}
+
+// As one region in the other slot, behind which an entry of index 1 is in order again.
+#[test]
+fn resets_to_no_entry(rt: HostRuntime) -> Result<(), Fail> {
+    let alloc = rt.alloc();
+    let mut disk = expiring(alloc)?;
+    apply(alloc, &mut disk, false, &[(2, Write::Insert(b'b', b'c'))])?;
+    assert!(rt; resets_anew(alloc, &mut disk)?);
+    assert!(rt; lists(disk.get(OTHER_SLOT), &[NOTHING_REGION]));
+    disk.crash(0);
+    assert!(rt; opens_as(alloc, &mut disk, [None; 5], NO_MARK)?);
+    apply(alloc, &mut disk, false, &[(1, Write::Insert(b'a', b'b'))])?;
+    let values = [Some(b'b'), None, None, None, None];
+    assert!(rt; opens_as(alloc, &mut disk, values, mark_of(1))?);
     Ok(())
 }
 

@@ -2,8 +2,15 @@ use Rattle.std.proofs.Common.{◌≡◌, Some, sym, ap, subst, ◌∙◌}
 use Rattle.den_model.specs.declared.region.StateRegion.{StateRegion}
 use Rattle.den_model.specs.MapState.{map_after}
 use Rattle.den_state.specs.Stored.{cleanup_of, map_by}
-use Rattle.den_state.proofs.Marks.{cleaned_by, mark_by}
+use Rattle.den_state.proofs.Marks.{begin_after, cleaned_by, mark_by}
 use Rattle.den_state.proofs.stored_map.StoredMapFolded.settle.Goals as goal
+
+pub returns-in-Begin-clause-settled : goal.returns-in-Begin-clause-settled
+returns-in-Begin-clause-settled c =
+    let m = c.args.self.now.map in
+    let map : c.at.result ≡ map_by m (map_after m c.args.region) =
+    c.at.ensures ∙ sym (ap (map_by m) (ap (map_after m) c.in-Begin.is ∙ begin_after m c.in-Begin.index c.in-Begin.term)) in
+    λ i. record { map = map i; tail = c.tail_after-self.ensures i }
 
 pub returns-in-Mark-clause-settled : goal.returns-in-Mark-clause-settled
 returns-in-Mark-clause-settled c =
