@@ -17,7 +17,7 @@ use Rattle.den_map.specs.Leases.{lacks_lease}
 use Rattle.den_map.specs.Order.{out_of_order}
 use Rattle.den_journal.specs.Causes.{IsRefusal}
 use Rattle.den_journal.specs.Shown.{Held, Shown}
-use Rattle.den_journal.specs.Writes.{Faulted, GoesOn, Moves, Tells, Writes}
+use Rattle.den_journal.specs.Writes.{Faulted, GoesOn, Moves, DiskTells, Writes}
 use Rattle.den_journal.proofs.Moving.{goes_nowhere, moves_nothing}
 use Rattle.den_state.specs.Changes.{chunk_change}
 use Rattle.den_state.specs.Checkpoint.{IsCheckpointSize}
@@ -89,7 +89,7 @@ module _ {D T : Type 0} (disk : Ghosts D) (holds : Held MapState) (was now : Sho
   pub chunk_goes_on : GoesOn disk old new
   chunk_goes_on = by_refusal (GoesOn disk old new) (λ e is r d. subst (λ (x : D). GoesOn disk old x) (sym d) (goes_nowhere disk old)) (λ none w. w.goes_on)
 
-  pub chunk_moves : Tells disk old → (holds.told → (files : Files) → disk.images old (disk.moment old) files → holds.of files ≡ Some was.value) → Moves disk state_family holds (was.value ∷ map_applied_all was.value chunk ∷ []) old new
+  pub chunk_moves : DiskTells disk old → (holds.told → (files : Files) → disk.images old (disk.moment old) files → holds.of files ≡ Some was.value) → Moves disk state_family holds (was.value ∷ map_applied_all was.value chunk ∷ []) old new
   chunk_moves tells gives =
       let Left : D → Type 0 = λ x. Moves disk state_family holds (was.value ∷ map_applied_all was.value chunk ∷ []) old x in
       by_refusal (Left new) (λ e is r d. subst Left (sym d) (moves_nothing disk state_family holds was.value (map_applied_all was.value chunk ∷ []) old gives)) (λ none w. w.moves tells)
@@ -100,7 +100,7 @@ module _ {D T : Type 0} (disk : Ghosts D) (holds : Held MapState) (was now : Sho
   pub chunk_ready : OnOk result now.ready
   chunk_ready = by_refusal _ (λ e is r d. on_turned _ e r) (λ none w. on_ok_weaker result (λ b. b.ready) w.done)
 
-  pub chunk_rests : OnOk result (Tells disk old → now.rests (disk.content new))
+  pub chunk_rests : OnOk result (DiskTells disk old → now.rests (disk.content new))
   chunk_rests = by_refusal _ (λ e is r d. on_turned _ e r) (λ none w. on_ok_weaker result (λ b. b.rests) w.done)
 
   pub chunk_refused : IfErr result (IsChunkRefusal leased (Faulted disk old new) (disk.kind old).limit mark chunk)
@@ -110,10 +110,10 @@ module _ {D T : Type 0} (disk : Ghosts D) (holds : Held MapState) (was now : Sho
       (λ none w. IfErr-weaker result _ P (λ e r. disk_refused leased mark chunk (Faulted disk old new) (disk.kind old).limit e none r.cause) w.refused)
 
   pub chunk_full : ((n : ℕ) → IsCheckpointSize (map_applied_all was.value chunk) n → n ≤ was.weight + store_rise (entries_size chunk))
-      → IfErr result (IsFullBy (Tells disk old × holds.told) (disk.content new).reading (disk.kind old).limit (was.weight + store_rise (entries_size chunk)))
+      → IfErr result (IsFullBy (DiskTells disk old × holds.told) (disk.content new).reading (disk.kind old).limit (was.weight + store_rise (entries_size chunk)))
   chunk_full drafted =
-      let P : Error → Type 0 = IsFullBy (Tells disk old × holds.told) (disk.content new).reading (disk.kind old).limit (was.weight + store_rise (entries_size chunk)) in
-      by_refusal (IfErr result P) (λ e is r d. subst (λ (x : Result T Error). IfErr x P) (sym r) (turned_light leased mark chunk (Tells disk old × holds.told) (disk.content new).reading (disk.kind old).limit (was.weight + store_rise (entries_size chunk)) e is))
+      let P : Error → Type 0 = IsFullBy (DiskTells disk old × holds.told) (disk.content new).reading (disk.kind old).limit (was.weight + store_rise (entries_size chunk)) in
+      by_refusal (IfErr result P) (λ e is r d. subst (λ (x : Result T Error). IfErr x P) (sym r) (turned_light leased mark chunk (DiskTells disk old × holds.told) (disk.content new).reading (disk.kind old).limit (was.weight + store_rise (entries_size chunk)) e is))
       (λ none w. IfErr-weaker result _ P (λ e r. full_by _ state_family _ _ _ _ _ e state_served (λ n is. let light = light_chunk was.value chunk in omega (arith, light, is)) drafted r.full r.heavy) w.refused)
 
 -- a state machine whose files give the map that a chunk made

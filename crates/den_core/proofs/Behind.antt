@@ -7,7 +7,7 @@ use Rattle.den_disk.specs.Families.{OldOrNew}
 use Rattle.den_disk.specs.Files.{Kind}
 use Rattle.den_codec.specs.declared.error.Error.{Error}
 use Rattle.den_codec.specs.declared.error.Error.TheVariants.{OutOfMemory, StorageIoError, DiskFull, LinkFault, DataCorruption, FeatureNotEnabled, ProposeFailed, UnorderedChunk, Config, StateMachineError}
-use Rattle.den_journal.specs.Writes.{GoesOn, Tells}
+use Rattle.den_journal.specs.Writes.{GoesOn, DiskTells}
 use Rattle.den_model.specs.Entries.{LogEntry}
 use Rattle.den_model.specs.Grown.{appended, IsPurgedUpTo}
 use Rattle.den_model.specs.Kv.{Durable, Kv}
@@ -37,17 +37,17 @@ left_then StateMachineError failed untouched written other more fails still wrot
 
 module _ {D : Type 0} (disk : Ghosts D) (was mid now : Seen) (old between new : D) (says : Says) (to : Durable) (entries : List LogEntry) (rise more : ℕ) {T : Type 0} (x : T)
     (one : Changes disk was mid old between says to entries rise (Ok x)) (exact : mid.log ≡ appended was.log entries) where
-  tells_then : Tells disk old → Tells disk between
+  tells_then : DiskTells disk old → DiskTells disk between
   tells_then told = subst (λ (k : Kind). IsTrue k.tells) (sym one.goes_on.same) told
 
   module _ {U : Type 0} (r : Result U Error) (two : Makes disk mid now between new says [] more (now.log ≡ mid.log) r) where
     both_go_on : GoesOn disk old new
     both_go_on = disk_twice disk.kind disk.moment disk.images disk.faults old between new one.goes_on two.goes_on
 
-    both_spare : Tells disk old → SparesFamily snapshot_family disk.content disk.moment disk.images old new
+    both_spare : DiskTells disk old → SparesFamily snapshot_family disk.content disk.moment disk.images old new
     both_spare = spares_twice disk.kind disk.content disk.moment disk.images disk.faults snapshot_family old between new one.goes_on two.goes_on one.snapshot two.snapshot
 
-    both_move : Tells disk old → says.told → OldOrNew says.holds (disk.images new) (disk.moment old) (disk.moment new) was.kv.durable to
+    both_move : DiskTells disk old → says.told → OldOrNew says.holds (disk.images new) (disk.moment old) (disk.moment new) was.kv.durable to
     both_move told held =
         moves_then says.holds (disk.images between) (disk.images new) (disk.moment old) (disk.moment between) (disk.moment new) was.kv.durable to
         (two.goes_on.told (tells_then told)).past (one.moves told held)

@@ -13,7 +13,7 @@ use Rattle.den_model.specs.Plan.{after}
 use Rattle.den_model.specs.Step.{Step}
 use Rattle.den_codec.specs.declared.error.Error.{Error}
 use Rattle.den_journal.specs.Causes.{IsRefusal}
-use Rattle.den_journal.specs.Writes.{Faulted, GoesOn, Tells}
+use Rattle.den_journal.specs.Writes.{Faulted, GoesOn, DiskTells}
 use Rattle.den_core.specs.Full.{IsFullBy}
 use Rattle.den_core.specs.Refusals.{FailsOrStays, HasJoined, IsServeRefusal}
 use Rattle.den_core.specs.Spared.{SparesFamily}
@@ -58,7 +58,7 @@ module _ {D : Type 0} (disk : Ghosts D) where
   -- a stepper that can go on, with its files as its last call left them
   pub record CanGoOn (now : Seen) (at : D) : Type 0 where
     pub ready : now.ready
-    pub rests : Tells disk at → now.rests (disk.content at)
+    pub rests : DiskTells disk at → now.rests (disk.content at)
 
   module _ (was now : Seen) (old new : D) where
     -- A call left a stepper and the disk as they were: where the stepper could go on it still can.
@@ -69,13 +69,13 @@ module _ {D : Type 0} (disk : Ghosts D) where
       pub same_disk : new ≡ old
       pub stays_short : was.short → now.short
       pub stays_ready : was.ready → now.ready
-      pub stays_at_rest : Tells disk old → was.rests (disk.content old) → now.rests (disk.content new)
+      pub stays_at_rest : DiskTells disk old → was.rests (disk.content old) → now.rests (disk.content new)
 
     -- A refusal of a call by which the weight rises so much at most. `written` is what was written where want of memory
     -- left a stepper that has failed.
-    pub record IsRefused (says : Says) (rise : ℕ) (written : Type 0) (e : Error) : Type 0 where
+    pub record IsStepRefused (says : Says) (rise : ℕ) (written : Type 0) (e : Error) : Type 0 where
       pub cause : IsRefusal (Faulted disk old new) (disk.kind old).limit e
-      pub full : IsFullBy (Tells disk old × says.told) (disk.content new).reading (disk.kind old).limit (was.weight + rise) e
+      pub full : IsFullBy (DiskTells disk old × says.told) (disk.content new).reading (disk.kind old).limit (was.weight + rise) e
       pub left : FailsOrStays now.failed IsUntouched written e
 
     -- a stepper that made these steps
@@ -84,17 +84,17 @@ module _ {D : Type 0} (disk : Ghosts D) where
       pub logged : IsLogAfter was.log was.kv steps now.log
       pub weight : now.weight ≤ was.weight + rise
       pub ready : now.ready
-      pub rests : Tells disk old → now.rests (disk.content new)
+      pub rests : DiskTells disk old → now.rests (disk.content new)
 
     -- A call that makes these steps, of which nothing is sent yet. A crash inside leaves what some of them make. The
     -- snapshot's files are left alone.
     pub record Makes {T : Type 0} (says : Says) (steps : List Step) (rise : ℕ) (written : Type 0) (result : Result T Error) : Type 0 where
       pub goes_on : GoesOn disk old new
-      pub snapshot : Tells disk old → SparesFamily snapshot_family disk.content disk.moment disk.images old new
+      pub snapshot : DiskTells disk old → SparesFamily snapshot_family disk.content disk.moment disk.images old new
       pub same_most : now.most ≡ was.most
-      pub survives : Tells disk old → says.told → Survives says.holds (disk.images new) (disk.moment old) (disk.moment new) [] was.kv steps
+      pub survives : DiskTells disk old → says.told → Survives says.holds (disk.images new) (disk.moment old) (disk.moment new) [] was.kv steps
       pub done : OnOk result (Made steps rise)
-      pub refused : IfErr result (IsRefused says rise written)
+      pub refused : IfErr result (IsStepRefused says rise written)
 
     -- A stepper of this durable part, in whose log are these entries more. Entries up to the last that was applied may have
     -- been purged behind them.
@@ -102,27 +102,27 @@ module _ {D : Type 0} (disk : Ghosts D) where
       pub durable : now.kv.durable ≡ to
       pub logged : IsPurgedUpTo to.last_index (appended was.log entries) now.log
       pub weight : now.weight ≤ was.weight + rise
-      pub rests : Tells disk old → now.rests (disk.content new)
+      pub rests : DiskTells disk old → now.rests (disk.content new)
 
     -- A call that makes this durable part and appends these entries. A crash inside leaves the old part or the new
     -- one. The snapshot's files are left alone.
     pub record Changes {T : Type 0} (says : Says) (to : Durable) (entries : List LogEntry) (rise : ℕ) (result : Result T Error) : Type 0 where
       pub goes_on : GoesOn disk old new
-      pub snapshot : Tells disk old → SparesFamily snapshot_family disk.content disk.moment disk.images old new
+      pub snapshot : DiskTells disk old → SparesFamily snapshot_family disk.content disk.moment disk.images old new
       pub same_most : now.most ≡ was.most
-      pub moves : Tells disk old → says.told → OldOrNew says.holds (disk.images new) (disk.moment old) (disk.moment new) was.kv.durable to
+      pub moves : DiskTells disk old → says.told → OldOrNew says.holds (disk.images new) (disk.moment old) (disk.moment new) was.kv.durable to
       pub done : OnOk result (Changed to entries rise)
-      pub refused : IfErr result (IsRefused says rise (HasJoined was.log entries now.log))
+      pub refused : IfErr result (IsStepRefused says rise (HasJoined was.log entries now.log))
 
     -- A call that serves frames. A log that was short at entry is at Ok, and so is a state machine. A full disk is told by the weight that it comes to
     -- at most. The link may refuse it too, where its count of faults rose. The snapshot's files are left alone.
     pub record Serves {T : Type 0} (says : Says) (link_faulted : Type 0) (most : ℕ) (result : Result T Error) : Type 0 where
       pub goes_on : GoesOn disk old new
-      pub snapshot : Tells disk old → SparesFamily snapshot_family disk.content disk.moment disk.images old new
+      pub snapshot : DiskTells disk old → SparesFamily snapshot_family disk.content disk.moment disk.images old new
       pub same_most : now.most ≡ was.most
       pub ready : OnOk result now.ready
-      pub rests : OnOk result (Tells disk old → now.rests (disk.content new))
+      pub rests : OnOk result (DiskTells disk old → now.rests (disk.content new))
       pub short : OnOk result (LogIsShort was → LogIsShort now)
       pub state_short : OnOk result (was.short → now.short)
       pub refused : IfErr result (IsServeRefusal (Faulted disk old new) link_faulted (disk.kind old).limit)
-      pub full : IfErr result (IsFullBy (Tells disk old × says.told) (disk.content new).reading (disk.kind old).limit most)
+      pub full : IfErr result (IsFullBy (DiskTells disk old × says.told) (disk.content new).reading (disk.kind old).limit most)

@@ -32,8 +32,8 @@ use Rattle.den_journal.specs.Causes.{IsFullFor, IsRefusal, IsTooShort}
 use Rattle.den_journal.specs.Drafts.{Commits, Drafts, IsDrafting, IsFullOf, IsSizeOf, Pushes}
 use Rattle.den_journal.specs.Lies.{gives_hold}
 use Rattle.den_journal.specs.Refused.{refusal}
-use Rattle.den_journal.specs.Shown.{Gives, held_in, rewrite_size}
-use Rattle.den_journal.specs.Writes.{Faulted, Moves, Tells}
+use Rattle.den_journal.specs.Shown.{RestsAs, held_in, rewrite_size}
+use Rattle.den_journal.specs.Writes.{Faulted, Moves, DiskTells}
 use Rattle.den_journal.proofs.Full.{full_of, short_in_other, sync_refused}
 use Rattle.den_journal.proofs.Moving.{first_of, goes_nowhere, moves_joined, moves_flipped, moves_kept, moves_nothing}
 
@@ -44,8 +44,8 @@ pushed_size ps p =
 
 -- ---- what files give beside a draft, and behind its commit
 
-module _ {V D : Type 0} (disk : DiskGhosts D) (family : Family) (meaning : List Region → Result V ℕ) (was now : GateFile) (v : V) (old new : D) (tells : Tells disk old) (gives : Gives family meaning was v (disk.content old)) where
-  pub gives_beside : KeepsList disk was now old new → Gives family meaning now v (disk.content new)
+module _ {V D : Type 0} (disk : DiskGhosts D) (family : Family) (meaning : List Region → Result V ℕ) (was now : GateFile) (v : V) (old new : D) (tells : DiskTells disk old) (gives : RestsAs family meaning was v (disk.content old)) where
+  pub gives_beside : KeepsList disk was now old new → RestsAs family meaning now v (disk.content new)
   gives_beside keeps = record {
     family_is = ap (λ (p : Place). p.family) keeps.slot ∙ gives.family_is;
     at_rest = keeps.at_rest tells gives.at_rest;
@@ -64,7 +64,7 @@ module _ {V D : Type 0} (disk : DiskGhosts D) (family : Family) (meaning : List 
       moves_flipped disk family meaning was.slot (payloads was (disk.content old).reading) v old new gives.family_is gives.means (writes.images tells) (writes.others tells) list w is rewrites.family
 
 pub rests_give : {V : Type 0} (family : Family) (meaning : List Region → Result V ℕ) (gate : GateFile) (list : List (List ℕ)) (v : V) (c : Content) → gate.slot.family ≡ family → RestsWith gate list c
-    → meaning (placed 0 list) ≡ Ok v → Gives family meaning gate v c
+    → meaning (placed 0 list) ≡ Ok v → RestsAs family meaning gate v c
 rests_give family meaning gate list v c own rests is = record {
   family_is = own;
   at_rest = rests.at_rest;
@@ -78,12 +78,12 @@ rests_give family meaning gate list v c own rests is = record {
 abbrev pub WasFull : {D : Type 0} (disk : DiskGhosts D) (gate : GateFile) (old new : D) (size needed limit : ℕ) → Type 0
 WasFull disk gate old new size needed limit =
     (needed ≡ room_for (draft_end gate) size) × (limit ≡ (disk.kind old).limit) × (limit < needed) × (2 ^ 43 ≤ limit)
-    × (Tells disk old → IsShort ((disk.content old).reading (other_slot gate.slot)) (draft_end gate) size × Stays disk.content disk.moment disk.images old new)
+    × (DiskTells disk old → IsShort ((disk.content old).reading (other_slot gate.slot)) (draft_end gate) size × Stays disk.content disk.moment disk.images old new)
 
 module _ {F R D : Type 0} (fold : Ghosts F R) (disk : DiskGhosts D) (law : Law disk) (was now : Journal F) (old new : D) (words : List (List ℕ)) (drafting : IsDrafting fold disk was words old) (held : now.held ≡ was.held) where
   why : (word : List ℕ) (e : GateError) → Because ⊥ (Faulted disk old new) (WasFull disk was.gate old new (length word)) (λ part offset. ⊥) e
       → IsRefusal (Faulted disk old new) (disk.kind old).limit (refusal fold.FAMILY e)
-      × IsFullOf (Tells disk old) fold.FAMILY (disk.content new).reading (length (open_regions words)) (length word) (refusal fold.FAMILY e)
+      × IsFullOf (DiskTells disk old) fold.FAMILY (disk.content new).reading (length (open_regions words)) (length word) (refusal fold.FAMILY e)
       × IsHeavy (disk.kind old).limit (length (open_regions words) + length word) (refusal fold.FAMILY e)
   why word gate.OutOfMemory h = absurd h
   why word gate.StorageIoError h = (h, tt, tt)
@@ -121,10 +121,10 @@ module _ {F R D : Type 0} (fold : Ghosts F R) (disk : DiskGhosts D) (law : Law d
 
   pub push_made : {T E : Type 0} (result : Result T E) (x : T) (word : List ℕ) → now.gate.failed ≡ false → now.failed ≡ was.failed → now.gate.draft ≡ Some (draft_end was.gate + (9 + length word))
       → WritesOwn disk was.gate now.gate old new result → KeepsList disk was.gate now.gate old new
-      → (Tells disk old → (list : List (List ℕ)) → IsDraft was.gate list (disk.content old) → IsDraft now.gate (list ++ word ∷ []) (disk.content new))
+      → (DiskTells disk old → (list : List (List ℕ)) → IsDraft was.gate list (disk.content old) → IsDraft now.gate (list ++ word ∷ []) (disk.content new))
       → Pushes fold disk was now old new words word (Ok x)
   push_made result x word going same is writes keeps pushed =
-      let on : Tells disk new → Tells disk old = λ tells. subst (λ (k : Kind). IsTrue k.tells) writes.goes_on.same tells in
+      let on : DiskTells disk new → DiskTells disk old = λ tells. subst (λ (k : Kind). IsTrue k.tells) writes.goes_on.same tells in
       record {
         drafts = record {
           goes_on = writes.goes_on;
@@ -138,7 +138,7 @@ module _ {F R D : Type 0} (fold : Ghosts F R) (disk : DiskGhosts D) (law : Law d
           end = omega (arith, ap (λ (o : Option ℕ). unwrap_or o 0) is, drafting.end, pushed_size words word);
           going = going;
           unready = same ∙ drafting.unready;
-          gives = λ tells. subst (λ h. Gives fold.FAMILY (fold.from fold.empty) now.gate (fold.value h) (disk.content new)) (sym held)
+          gives = λ tells. subst (λ h. RestsAs fold.FAMILY (fold.from fold.empty) now.gate (fold.value h) (disk.content new)) (sym held)
               (gives_beside disk fold.FAMILY (fold.from fold.empty) was.gate now.gate (fold.value was.held) old new (on tells) (drafting.gives (on tells)) keeps);
           draft = λ tells. pushed (on tells) words (drafting.draft (on tells));
         };
@@ -160,7 +160,7 @@ push_wanting fold disk law was now d words word drafting held same (Err e) is = 
     same_value = ap fold.value held;
   };
   pushed = tt;
-  full = subst (IsFullOf (Tells disk d) fold.FAMILY (disk.content d).reading (length (open_regions words)) (length word)) (sym is) tt;
+  full = subst (IsFullOf (DiskTells disk d) fold.FAMILY (disk.content d).reading (length (open_regions words)) (length word)) (sym is) tt;
   heavy = subst (IsHeavy (disk.kind d).limit (length (open_regions words) + length word)) (sym is) tt;
 }
 
@@ -169,19 +169,19 @@ push_wanting fold disk law was now d words word drafting held same (Err e) is = 
 module _ {F R D : Type 0} (fold : Ghosts F R) (disk : DiskGhosts D) (was now : Journal F) (old new : D) (words : List (List ℕ)) (drafting : IsDrafting fold disk was words old)
     (is : fold.from fold.empty (placed 0 words) ≡ Ok (fold.renewed (fold.value was.held)))
     {S E : Type 0} (result : Result S E) (writes : WritesOwn disk was.gate now.gate old new result)
-    (rewrites : Tells disk old → (list : List (List ℕ)) → IsDraft was.gate list (disk.content old) → IsAtRest was.gate (disk.content old) → IsCurrent was.gate.slot (disk.content old)
+    (rewrites : DiskTells disk old → (list : List (List ℕ)) → IsDraft was.gate list (disk.content old) → IsAtRest was.gate (disk.content old) → IsCurrent was.gate.slot (disk.content old)
     → Rewrites disk was.gate now.gate old new list) where
-  moves : Tells disk old → Moves disk fold.FAMILY (held_in fold.FAMILY (fold.from fold.empty)) (fold.value was.held ∷ fold.renewed (fold.value was.held) ∷ []) old new
+  moves : DiskTells disk old → Moves disk fold.FAMILY (held_in fold.FAMILY (fold.from fold.empty)) (fold.value was.held ∷ fold.renewed (fold.value was.held) ∷ []) old new
   moves tells = let g = drafting.gives tells in
       moves_over disk fold.FAMILY (fold.from fold.empty) was.gate now.gate (fold.value was.held) old new tells g result words (fold.renewed (fold.value was.held)) writes is
       (rewrites tells words (drafting.draft tells) g.at_rest g.current)
 
   pub commit_made : {T : Type 0} (x : T) → ((v : fold.Value) → fold.size (fold.renewed v) ≡ fold.size v) → fold.value now.held ≡ fold.renewed (fold.value was.held) → now.failed ≡ false → now.gate.failed ≡ false
       → Rewritten disk was.gate now.gate old new (draft_end was.gate)
-      → (Tells disk old → (list : List (List ℕ)) → IsDraft was.gate list (disk.content old) → IsCurrent was.gate.slot (disk.content old) → RestsWith now.gate list (disk.content new))
+      → (DiskTells disk old → (list : List (List ℕ)) → IsDraft was.gate list (disk.content old) → IsCurrent was.gate.slot (disk.content old) → RestsWith now.gate list (disk.content new))
       → Commits fold disk was now old new words (Ok x)
   commit_made x anew value ready going rewritten rests =
-      let at_rest : (tells : Tells disk old) → RestsWith now.gate words (disk.content new) = λ tells. rests tells words (drafting.draft tells) (drafting.gives tells).current in
+      let at_rest : (tells : DiskTells disk old) → RestsWith now.gate words (disk.content new) = λ tells. rests tells words (drafting.draft tells) (drafting.gives tells).current in
       record {
         drafts = record { goes_on = writes.goes_on; moves = moves; cause = tt; failed = tt; same_value = tt };
         done = record {
@@ -231,7 +231,7 @@ pub drafts_then : {F R D S T : Type 0} (fold : Ghosts F R) (disk : DiskGhosts D)
     → Drafts fold disk was now old new (fold.value was.held ∷ more) result
 drafts_then fold disk was between now old mid new more x result same one two =
     let v = fold.value was.held in
-    let on : Tells disk old → Tells disk mid = λ tells. subst (λ (k : Kind). IsTrue k.tells) (sym one.goes_on.same) tells in
+    let on : DiskTells disk old → DiskTells disk mid = λ tells. subst (λ (k : Kind). IsTrue k.tells) (sym one.goes_on.same) tells in
     record {
       goes_on = record {
         same = two.goes_on.same ∙ one.goes_on.same;

@@ -18,8 +18,8 @@ use Rattle.den_gate.specs.Slot.{Holds, IsShort, room_for}
 use Rattle.den_disk.specs.declared.disk.Disk.{Ghosts}
 use Rattle.den_codec.specs.declared.error.Error.TheVariants.{StorageIoError, DiskFull}
 use Rattle.den_journal.specs.Causes.{IsFullFor, IsTooShort, slot_size}
-use Rattle.den_journal.specs.Shown.{Change, Held, Shown}
-use Rattle.den_journal.specs.Writes.{Faulted, IsRefused, Tells}
+use Rattle.den_journal.specs.Shown.{Effect, Held, Shown}
+use Rattle.den_journal.specs.Writes.{Faulted, IsRefused, DiskTells}
 use Rattle.den_journal.specs.Folding.{end_from}
 use Rattle.den_journal.specs.Opening.{IsLoaded}
 use Rattle.den_journal.specs.Refused.{refusal}
@@ -43,10 +43,10 @@ pub full_of : (size needed limit weight : ℕ) → needed ≡ room_for size 0 �
 full_of size needed limit weight is over least within = omega arith
 
 -- what the disk refused of a change
-pub refused_by : {D V : Type 0} (disk : Ghosts D) (was now : Shown V) (old new : D) (family : Family) (holds : Held V) (change : Change V) (full : ℕ → ℕ → Type 0) (e : GateError) → (now.ready → ⊥)
+pub refused_by : {D V : Type 0} (disk : Ghosts D) (was now : Shown V) (old new : D) (family : Family) (holds : Held V) (change : Effect V) (full : ℕ → ℕ → Type 0) (e : GateError) → (now.ready → ⊥)
     → (now.value ≡ was.value) ⊎ (now.value ≡ change.to)
     → ((needed limit : ℕ) → full needed limit → (limit ≡ (disk.kind old).limit) × (limit < needed) × (2 ^ 43 ≤ limit))
-    → ((needed limit : ℕ) → full needed limit → IsFullFor (Tells disk old × holds.told) family (disk.content new).reading (was.weight + change.rise) change.adds change.drafts (DiskFull needed limit))
+    → ((needed limit : ℕ) → full needed limit → IsFullFor (DiskTells disk old × holds.told) family (disk.content new).reading (was.weight + change.rise) change.adds change.drafts (DiskFull needed limit))
     → Because ⊥ (Faulted disk old new) full (λ part offset. ⊥) e → IsRefused disk was now old new family holds change (refusal family e)
 refused_by disk was now old new family holds change full gate.OutOfMemory failed kept says room h = absurd h
 refused_by disk was now old new family holds change full gate.StorageIoError failed kept says room h =

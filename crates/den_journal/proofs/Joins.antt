@@ -5,7 +5,7 @@ use Rattle.std.proofs.lemmas.Bool.{cases_lt}
 use Rattle.std.proofs.lemmas.List.{drop_more, take_more, take_all}
 use Rattle.std.proofs.lemmas.Option.{slice_get_within, get_or_from_slice_get, slice_get-get_or}
 use Rattle.den_model.specs.Regions.{Region, placed}
-use Rattle.den_journal.specs.Folding.{Folds, end_from}
+use Rattle.den_journal.specs.Folding.{IsFold, end_from}
 
 pub placed_append : (offset : ℕ) (ps more : List (List ℕ)) → placed offset (ps ++ more) ≡ placed offset ps ++ placed (end_from offset ps) more
 placed_append offset [] more = refl
@@ -15,7 +15,7 @@ placed_append offset (q ∷ ps) more =
 
 -- ---- a fold over regions
 
-module _ {V : Type 0} (after : V → List ℕ → Option V) (from : V → List Region → Result V ℕ) (folds : Folds after from) where
+module _ {V : Type 0} (after : V → List ℕ → Option V) (from : V → List Region → Result V ℕ) (folds : IsFold after from) where
   read_one : (v w : V) (r : Region) (rs more : List Region) → from v (r ∷ rs) ≡ Ok w → ((u : V) → from u rs ≡ Ok w → from u (rs ++ more) ≡ from w more) → (next : Option V) → after v r.payload ≡ next
       → from v (r ∷ (rs ++ more)) ≡ from w more
   read_one v w r rs more is on None e =

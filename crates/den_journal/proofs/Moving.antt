@@ -17,8 +17,8 @@ use Rattle.den_gate.specs.Gate.{KeepsFamily, KeepsOrAddsFamily}
 use Rattle.den_gate.specs.Draft.{other_slot, FlipsFamily}
 use Rattle.den_gate.proofs.Families.{has_meaning, adds_meaning}
 use Rattle.den_journal.specs.Causes.{IsFullFor, IsOfDisk, IsRefusal}
-use Rattle.den_journal.specs.Shown.{Change, Held, IsOneOf, Shown, held_in}
-use Rattle.den_journal.specs.Writes.{GoesOn, Tells, Faulted, Moves, IsLost, Writes}
+use Rattle.den_journal.specs.Shown.{Effect, Held, IsOneOf, Shown, held_in}
+use Rattle.den_journal.specs.Writes.{GoesOn, DiskTells, Faulted, Moves, IsLost, Writes}
 
 same_moment : (t u : ℕ) → t ≤ u → u ≤ t → u ≡ t
 same_moment t u low high = omega arith
@@ -87,7 +87,7 @@ module _ {D V : Type 0} (disk : Ghosts D) (family : Family) (meaning : List Regi
 
 -- ---- one stretch behind another
 
-module _ {D V : Type 0} {disk : Ghosts D} {family : Family} {holds : Held V} {old mid new : D} (begins : GoesOn disk old mid) (goes : GoesOn disk mid new) (tells : Tells disk old) where
+module _ {D V : Type 0} {disk : Ghosts D} {family : Family} {holds : Held V} {old mid new : D} (begins : GoesOn disk old mid) (goes : GoesOn disk mid new) (tells : DiskTells disk old) where
   -- two stretches, each of whose values is one of some
   pub moves_joined : (vs ws us : List V) → ((found : Option V) → IsOneOf vs found → IsOneOf us found) → ((found : Option V) → IsOneOf ws found → IsOneOf us found)
       → Moves disk family holds vs old mid → Moves disk family holds ws mid new → Moves disk family holds us old new
@@ -128,8 +128,8 @@ goes_nowhere disk d = record {
   told = λ tells. record { later = le_refl (disk.moment d); past = λ t files low i. i; keeps = λ t files low i. i };
 }
 
-module _ {D V T : Type 0} (disk : Ghosts D) (family : Family) (holds : Held V) (change : Change V) (was now : Shown V) (d : D)
-    (ready : now.ready) (rests : Tells disk d → now.rests (disk.content d)) (gives : Tells disk d → holds.told → (files : Files) → disk.images d (disk.moment d) files → holds.of files ≡ Some was.value) where
+module _ {D V T : Type 0} (disk : Ghosts D) (family : Family) (holds : Held V) (change : Effect V) (was now : Shown V) (d : D)
+    (ready : now.ready) (rests : DiskTells disk d → now.rests (disk.content d)) (gives : DiskTells disk d → holds.told → (files : Files) → disk.images d (disk.moment d) files → holds.of files ≡ Some was.value) where
   -- nothing was to be changed
   pub writes_nothing : (x : T) → now.value ≡ change.to → now.weight ≤ was.weight → Writes disk was now d d family holds change (Ok x)
   writes_nothing x same light = record {
@@ -148,7 +148,7 @@ module _ {D V T : Type 0} (disk : Ghosts D) (family : Family) (holds : Held V) (
     done = tt;
     refused = record {
       cause = subst (IsRefusal (Faulted disk d d) (disk.kind d).limit) (sym is) tt;
-      full = subst (IsFullFor (Tells disk d × holds.told) family (disk.content d).reading (was.weight + change.rise) change.adds change.drafts) (sym is) tt;
+      full = subst (IsFullFor (DiskTells disk d × holds.told) family (disk.content d).reading (was.weight + change.rise) change.adds change.drafts) (sym is) tt;
       heavy = subst (IsHeavy (disk.kind d).limit (was.weight + change.rise)) (sym is) tt;
       untouched = λ _. inl (record { same_disk = refl; same_value = same; same_weight = even; ready = ready; rests = rests });
       failed = λ of_disk _. subst IsOfDisk is of_disk;
@@ -157,8 +157,8 @@ module _ {D V T : Type 0} (disk : Ghosts D) (family : Family) (holds : Held V) (
   }
 
 -- memory was wanting once a change was written
-pub writes_lost : {D V T : Type 0} (disk : Ghosts D) (family : Family) (holds : Held V) (change : Change V) (was now : Shown V) (old new : D) (result : Result T Error) → IsErrAnd result (λ e. e ≡ OutOfMemory)
-    → GoesOn disk old new → (Tells disk old → Moves disk family holds (was.value ∷ change.to ∷ []) old new) → IsLost disk was now old new holds change → Writes disk was now old new family holds change result
+pub writes_lost : {D V T : Type 0} (disk : Ghosts D) (family : Family) (holds : Held V) (change : Effect V) (was now : Shown V) (old new : D) (result : Result T Error) → IsErrAnd result (λ e. e ≡ OutOfMemory)
+    → GoesOn disk old new → (DiskTells disk old → Moves disk family holds (was.value ∷ change.to ∷ []) old new) → IsLost disk was now old new holds change → Writes disk was now old new family holds change result
 writes_lost disk family holds change was now old new (Ok x) is goes moves so = absurd is
 writes_lost disk family holds change was now old new (Err e) is goes moves so = record {
   goes_on = goes;
@@ -166,7 +166,7 @@ writes_lost disk family holds change was now old new (Err e) is goes moves so = 
   done = tt;
   refused = record {
     cause = subst (IsRefusal (Faulted disk old new) (disk.kind old).limit) (sym is) tt;
-    full = subst (IsFullFor (Tells disk old × holds.told) family (disk.content new).reading (was.weight + change.rise) change.adds change.drafts) (sym is) tt;
+    full = subst (IsFullFor (DiskTells disk old × holds.told) family (disk.content new).reading (was.weight + change.rise) change.adds change.drafts) (sym is) tt;
     heavy = subst (IsHeavy (disk.kind old).limit (was.weight + change.rise)) (sym is) tt;
     untouched = λ _. inr so;
     failed = λ of_disk _. subst IsOfDisk is of_disk;

@@ -11,8 +11,8 @@ use Rattle.den_codec.specs.Full.{IsHeavy}
 use Rattle.den_gate.specs.Draft.{other_slot}
 use Rattle.den_journal.specs.Causes.{IsFullFor, IsOfDisk, IsTooShort}
 use Rattle.den_journal.specs.Folding.{IsUnread}
-use Rattle.den_journal.specs.Shown.{Change, Held, Shown, seen_as}
-use Rattle.den_journal.specs.Writes.{Tells, Moves, Becomes, Untouched, IsLost, IsRefused, Writes}
+use Rattle.den_journal.specs.Shown.{Effect, Held, Shown, seen_as}
+use Rattle.den_journal.specs.Writes.{DiskTells, Moves, Becomes, Untouched, IsLost, IsRefused, Writes}
 
 -- ---- a heavier weight
 
@@ -57,7 +57,7 @@ IsSameOutcome (Ok x) (Ok y) = Unit {0}
 IsSameOutcome (Err e) (Err f) = e ≡ f
 IsSameOutcome _ _ = ⊥
 
-module _ {D V W : Type 0} (disk : Ghosts D) (family : Family) (holds : Held V) (held : Held W) (part : V → W) (was now : Shown V) (old new : D) (change : Change V) (made : Change W)
+module _ {D V W : Type 0} (disk : Ghosts D) (family : Family) (holds : Held V) (held : Held W) (part : V → W) (was now : Shown V) (old new : D) (change : Effect V) (made : Effect W)
     (told : held.told → holds.told) (gives : (files : Files) (v : V) → holds.of files ≡ Some v → held.of files ≡ Some (part v)) (to : part change.to ≡ made.to) (adds : (n : ℕ) → change.adds n → made.adds n) (drafts : (n : ℕ) → change.drafts n → made.drafts n) (rise : change.rise ≤ made.rise) (lost : change.lost → made.lost) where
   made_some : (files : Files) → holds.of files ≡ Some change.to → held.of files ≡ Some made.to
   made_some files is = gives files change.to is ∙ ap (λ w. Some w) to
@@ -81,7 +81,7 @@ module _ {D V W : Type 0} (disk : Ghosts D) (family : Family) (holds : Held V) (
   refused_part : (e : Error) → IsRefused disk was now old new family holds change e → IsRefused disk (seen_as part was) (seen_as part now) old new family held made e
   refused_part e r = record {
     cause = r.cause;
-    full = more_full (Tells disk old × holds.told) (Tells disk old × held.told) family (disk.content new).reading (was.weight + change.rise) (was.weight + made.rise) change.adds change.drafts made.adds made.drafts e (λ t. (t.0, told t.1)) (omega (arith, rise)) adds drafts r.full;
+    full = more_full (DiskTells disk old × holds.told) (DiskTells disk old × held.told) family (disk.content new).reading (was.weight + change.rise) (was.weight + made.rise) change.adds change.drafts made.adds made.drafts e (λ t. (t.0, told t.1)) (omega (arith, rise)) adds drafts r.full;
     heavy = more_heavy (disk.kind old).limit (was.weight + change.rise) (was.weight + made.rise) e (omega (arith, rise)) r.heavy;
     untouched = λ is. ⊎_elim (λ u. inl (untouched_part u)) (λ l. inr (lost_part l)) (r.untouched is);
     failed = r.failed;
@@ -117,7 +117,7 @@ unread_part rose told at one other error.StateMachineError gives h = h
 -- ---- a refused call
 
 -- a call that takes no memory behind its write leaves the value, whatever refused it, where a refusal of the disk does
-pub refused_same : {D V : Type 0} (disk : Ghosts D) (was now : Shown V) (old new : D) (family : Family) (holds : Held V) (change : Change V) (e : Error) → (change.lost → ⊥) → (IsOfDisk e → now.value ≡ was.value)
+pub refused_same : {D V : Type 0} (disk : Ghosts D) (was now : Shown V) (old new : D) (family : Family) (holds : Held V) (change : Effect V) (e : Error) → (change.lost → ⊥) → (IsOfDisk e → now.value ≡ was.value)
     → IsRefused disk was now old new family holds change e → now.value ≡ was.value
 refused_same disk was now old new family holds change error.OutOfMemory never same r = ⊎_elim (λ u. u.same_value) (λ l. absurd (never l.may_be)) (r.untouched refl)
 refused_same disk was now old new family holds change error.StorageIoError never same r = same tt
@@ -125,7 +125,7 @@ refused_same disk was now old new family holds change (error.DiskFull needed lim
 refused_same disk was now old new family holds change _ never same r = absurd r.cause
 
 -- and so does any that can go on
-pub refused_ready : {D V : Type 0} (disk : Ghosts D) (was now : Shown V) (old new : D) (family : Family) (holds : Held V) (change : Change V) (e : Error) → now.ready
+pub refused_ready : {D V : Type 0} (disk : Ghosts D) (was now : Shown V) (old new : D) (family : Family) (holds : Held V) (change : Effect V) (e : Error) → now.ready
     → IsRefused disk was now old new family holds change e → now.value ≡ was.value
 refused_ready disk was now old new family holds change error.OutOfMemory ready r = ⊎_elim (λ u. u.same_value) (λ l. absurd (l.failed ready)) (r.untouched refl)
 refused_ready disk was now old new family holds change error.StorageIoError ready r = absurd (r.failed tt ready)

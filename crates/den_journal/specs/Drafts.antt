@@ -14,8 +14,8 @@ use Rattle.den_codec.specs.Full.{IsHeavy}
 use Rattle.den_journal.specs.declared.folded.Folded.{Ghosts}
 use Rattle.den_journal.specs.declared.journal.Journal.{Journal}
 use Rattle.den_journal.specs.Causes.{IsRefusal, IsTooShort}
-use Rattle.den_journal.specs.Shown.{Change, Gives, rewrite_size}
-use Rattle.den_journal.specs.Writes.{GoesOn, Tells, Faulted, Moves}
+use Rattle.den_journal.specs.Shown.{Effect, RestsAs, rewrite_size}
+use Rattle.den_journal.specs.Writes.{GoesOn, DiskTells, Faulted, Moves}
 use Rattle.den_journal.specs.Journals.{journal_shown, journal_held}
 
 -- ---- in one call
@@ -31,7 +31,7 @@ IsSizeOf [] n = ⊥
 IsSizeOf (p ∷ ps) n = (n ≡ length p) ⊎ IsSizeOf ps n
 
 -- a region's change, made by writing all regions anew, with these words
-abbrev pub rewrite_change : {F R : Type 0} (fold : Ghosts F R) → fold.Value → R → List (List ℕ) → Change fold.Value
+abbrev pub rewrite_change : {F R : Type 0} (fold : Ghosts F R) → fold.Value → R → List (List ℕ) → Effect fold.Value
 rewrite_change fold v r words = record { to = fold.changed v r; adds = λ n. ⊥; drafts = IsSizeOf words; rise = fold.rise r; lost = fold.lost r }
 
 -- ---- in several calls
@@ -57,15 +57,15 @@ module _ {F R : Type 0} (fold : Ghosts F R) {D : Type 0} (disk : DiskGhosts D) w
     pub end : draft_end j.gate ≡ length (open_regions words)
     pub going : j.gate.failed ≡ false
     pub unready : j.failed ≡ true
-    pub gives : Tells disk at → Gives fold.FAMILY (fold.from fold.empty) j.gate (fold.value j.held) (disk.content at)
-    pub draft : Tells disk at → IsDraft j.gate words (disk.content at)
+    pub gives : DiskTells disk at → RestsAs fold.FAMILY (fold.from fold.empty) j.gate (fold.value j.held) (disk.content at)
+    pub draft : DiskTells disk at → IsDraft j.gate words (disk.content at)
 
   module _ (was now : Journal F) (old new : D) where
     -- A call on a draft, whatever comes of it: a crash at each moment leaves one of these values. A refusal leaves the journal
     -- of no more use, with the value that it had.
     pub record Drafts {T : Type 0} (values : List fold.Value) (result : Result T Error) : Type 0 where
       pub goes_on : GoesOn disk old new
-      pub moves : Tells disk old → Moves disk fold.FAMILY (journal_held fold) values old new
+      pub moves : DiskTells disk old → Moves disk fold.FAMILY (journal_held fold) values old new
       pub cause : IfErr result (IsRefusal (Faulted disk old new) (disk.kind old).limit)
       pub failed : IfErr result (λ e. (journal_shown fold now).ready → ⊥)
       pub same_value : IfErr result (λ e. fold.value now.held ≡ fold.value was.held)
@@ -74,7 +74,7 @@ module _ {F R : Type 0} (fold : Ghosts F R) {D : Type 0} (disk : DiskGhosts D) w
     pub record Pushes {T : Type 0} (words : List (List ℕ)) (word : List ℕ) (result : Result T Error) : Type 0 where
       pub drafts : Drafts (fold.value was.held ∷ []) result
       pub pushed : OnOk result (IsDrafting now (words ++ word ∷ []) new)
-      pub full : IfErr result (IsFullOf (Tells disk old) fold.FAMILY (disk.content new).reading (length (open_regions words)) (length word))
+      pub full : IfErr result (IsFullOf (DiskTells disk old) fold.FAMILY (disk.content new).reading (length (open_regions words)) (length word))
       pub heavy : IfErr result (IsHeavy (disk.kind old).limit (length (open_regions words) + length word))
 
     -- a journal whose draft of these words is in use
@@ -82,8 +82,8 @@ module _ {F R : Type 0} (fold : Ghosts F R) {D : Type 0} (disk : DiskGhosts D) w
       pub value : fold.value now.held ≡ fold.renewed (fold.value was.held)
       pub weight : (journal_shown fold now).weight ≡ max (length (open_regions words)) (rewrite_size (fold.size (fold.value was.held)))
       pub ready : (journal_shown fold now).ready
-      pub rests : Tells disk old → (journal_shown fold now).rests (disk.content new)
-      pub list : Tells disk old → payloads now.gate (disk.content new).reading ≡ words
+      pub rests : DiskTells disk old → (journal_shown fold now).rests (disk.content new)
+      pub list : DiskTells disk old → payloads now.gate (disk.content new).reading ≡ words
       pub slot : now.gate.slot ≡ other_slot was.gate.slot
 
     -- A call that makes a draft of these words the family's list. A crash inside leaves the old value or what it is once its

@@ -5,7 +5,7 @@ use Rattle.den_codec.specs.declared.error.Error.{Error}
 use Rattle.den_codec.specs.declared.error.Error.TheVariants.{OutOfMemory, StorageIoError, DiskFull, LinkFault, DataCorruption, FeatureNotEnabled, ProposeFailed, UnorderedChunk, Config, StateMachineError}
 
 -- what is made of a value by regions is made payload by payload, up to the first that is not lawful
-pub record Folds {V : Type 0} (after : V → List ℕ → Option V) (from : V → List Region → Result V ℕ) : Type 0 where
+pub record IsFold {V : Type 0} (after : V → List ℕ → Option V) (from : V → List Region → Result V ℕ) : Type 0 where
   pub stays : (v : V) → from v [] ≡ Ok v
   pub goes_on : (v w : V) (r : Region) (rs : List Region) → after v r.payload ≡ Some w → from v (r ∷ rs) ≡ from w rs
   pub stops : (v : V) (r : Region) (rs : List Region) → after v r.payload ≡ None → from v (r ∷ rs) ≡ Err r.offset

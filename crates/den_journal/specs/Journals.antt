@@ -4,7 +4,7 @@ use Rattle.den_disk.specs.Files.{Files}
 use Rattle.den_model.specs.Image.{in_regions}
 use Rattle.den_journal.specs.declared.folded.Folded.{Ghosts}
 use Rattle.den_journal.specs.declared.journal.Journal.{Journal}
-use Rattle.den_journal.specs.Shown.{Change, Held, Shown, shown_of, held_in}
+use Rattle.den_journal.specs.Shown.{Effect, Held, Shown, shown_of, held_in}
 
 module _ {F R : Type 0} (fold : Ghosts F R) where
   -- its value, and what else is seen of it
@@ -19,5 +19,5 @@ module _ {F R : Type 0} (fold : Ghosts F R) where
   journal_held = held_in fold.FAMILY (fold.from fold.empty)
 
   -- what a region of this word changes of a value
-  abbrev pub region_change : fold.Value → R → List ℕ → Change fold.Value
+  abbrev pub region_change : fold.Value → R → List ℕ → Effect fold.Value
   region_change v r word = record { to = fold.changed v r; adds = λ n. n ≡ length word; drafts = λ n. ⊥; rise = fold.rise r; lost = fold.lost r }

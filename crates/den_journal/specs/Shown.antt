@@ -24,7 +24,7 @@ pub record Held (V : Type 0) : Type 1 where
 -- What a call writes: the value that it makes; the sizes of the payloads that it may add to the slot in use, and of those
 -- that it may put into the family's other slot; by how much the weight rises at most; and whether memory may be wanting
 -- once a part is written.
-pub record Change (V : Type 0) : Type 1 where
+pub record Effect (V : Type 0) : Type 1 where
   pub to : V
   pub adds : ℕ → Type 0
   pub drafts : ℕ → Type 0
@@ -42,7 +42,7 @@ IsOneOf (v ∷ []) found = found ≡ Some v
 IsOneOf (v ∷ w ∷ vs) found = (found ≡ Some v) ⊎ IsOneOf (w ∷ vs) found
 
 -- a gate file at rest, the one that the family's head names, whose regions give this value
-pub record Gives {V : Type 0} (family : Family) (meaning : List Region → Result V ℕ) (gate : GateFile) (value : V) (c : Content) : Type 0 where
+pub record RestsAs {V : Type 0} (family : Family) (meaning : List Region → Result V ℕ) (gate : GateFile) (value : V) (c : Content) : Type 0 where
   pub family_is : gate.slot.family ≡ family
   pub at_rest : IsAtRest gate c
   pub current : IsCurrent gate.slot c
@@ -58,7 +58,7 @@ shown_of family meaning size failed gate value = record {
   value = value;
   weight = max gate.end (rewrite_size (size value));
   ready = (failed ≡ false) × (gate.failed ≡ false);
-  rests = Gives family meaning gate value;
+  rests = RestsAs family meaning gate value;
 }
 
 -- what files give of a family by the meaning of its regions, which is told

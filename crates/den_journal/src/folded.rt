@@ -2,7 +2,7 @@
 ghost use Rattle.std.specs.Prelude.{◌≡◌, ◌≤◌, ◌+◌, ◌*◌, ℕ, List, Option, Some, None, Result, IsTrue, IsErr, IfOk, OnOk, length, if◌then◌else◌};
 ghost use Rattle.den_disk.specs.declared.place.Family.{Family};
 ghost use Rattle.den_model.specs.Regions.{Region};
-ghost use Rattle.den_journal.specs.Folding.{Folds};
+ghost use Rattle.den_journal.specs.Folding.{IsFold};
 
 use den_codec::Word;
 use den_disk::Family;
@@ -78,7 +78,7 @@ pub trait Folded: Sized + Drop {
     fn renew(&mut self)
         ensures { value self.new ≡ renewed (value self.old) };
 
-    ghost folds: { Folds after from };
+    ghost folds: { IsFold after from };
 
     ghost again: { (v : Value) (r : Self.Region) → lawful v r → Self.Region.fits r → after v (Self.Region.word r) ≡ Some (changed v r) };
 

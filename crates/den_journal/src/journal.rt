@@ -7,7 +7,7 @@ ghost use Rattle.den_codec.specs.declared.error.Error.TheVariants.{StorageIoErro
 ghost use Rattle.den_model.specs.Sizes.{family_size};
 ghost use Rattle.den_journal.specs.Causes.{IsFullAt, IsOfDisk};
 ghost use Rattle.den_journal.specs.Shown.{rewrite_size};
-ghost use Rattle.den_journal.specs.Writes.{Opens, Stands, Syncs, Writes};
+ghost use Rattle.den_journal.specs.Writes.{Opens, StoreStands, Syncs, Writes};
 
 use crate::Folded;
 use crate::family::{file_number, load, refusal};
@@ -53,7 +53,7 @@ impl<F: Folded> Journal<F> {
 
     /// Makes a change: by one region in the file, and then in memory.
     pub fn change<D: Disk>(&mut self, disk: &mut D, region: F::Region) -> Result<(), Error>
-        requires stands { Stands D.Disk (journal_shown F.Folded self.old) disk.old }
+        requires stands { StoreStands D.Disk (journal_shown F.Folded self.old) disk.old }
         requires lawful { F.lawful (F.value self.old.held) region }
         ensures writes { Writes D.Disk (journal_shown F.Folded self.old) (journal_shown F.Folded self.new)
             disk.old disk.new F.FAMILY (journal_held F.Folded)
@@ -85,7 +85,7 @@ impl<F: Folded> Journal<F> {
         region: F::Region,
         rest: Option<F::Region>,
     ) -> Result<(), Error>
-        requires stands { Stands D.Disk (journal_shown F.Folded self.old) disk.old }
+        requires stands { StoreStands D.Disk (journal_shown F.Folded self.old) disk.old }
         requires lawful { F.lawful (F.value self.old.held) region }
         requires gives { F.from F.empty (placed 0 (anew_words F.Region.word region rest)) ≡ Ok (F.changed (F.value self.old.held) region) }
         requires small { length (open_regions (anew_words F.Region.word region rest)) ≤ rewrite_size (F.size (F.changed (F.value self.old.held) region)) }
@@ -112,7 +112,7 @@ impl<F: Folded> Journal<F> {
     /// Begins a draft of the regions, in the slot that is not in use. The value stays. The journal is not ready before the draft
     /// is committed.
     pub fn draft_begin<D: Disk>(&mut self, disk: &mut D) -> Result<(), Error>
-        requires stands { Stands D.Disk (journal_shown F.Folded self.old) disk.old }
+        requires stands { StoreStands D.Disk (journal_shown F.Folded self.old) disk.old }
         ensures drafts { Drafts F.Folded D.Disk self.old self.new disk.old disk.new (F.value self.old.held ∷ []) result }
         ensures begun { OnOk result (IsDrafting F.Folded D.Disk self.new [] disk.new) }
         ensures held { self.new.held ≡ self.old.held }
@@ -165,7 +165,7 @@ impl<F: Folded> Journal<F> {
 
     /// Puts all files on the disk. It takes no memory.
     pub fn flush<D: Disk>(&mut self, disk: &mut D) -> Result<(), Error>
-        requires stands { Stands D.Disk (journal_shown F.Folded self.old) disk.old }
+        requires stands { StoreStands D.Disk (journal_shown F.Folded self.old) disk.old }
         ensures syncs { Syncs D.Disk (journal_shown F.Folded self.old) (journal_shown F.Folded self.new)
             disk.old disk.new F.FAMILY (journal_held F.Folded) result }
     {

@@ -12,10 +12,10 @@
 //!
 //! Invariants, and where each stands:
 //!
-//! 1. The regions of the slot in use, folded, give the value in memory: `Gives` in specs/Shown.antt, which is `rests` of
+//! 1. The regions of the slot in use, folded, give the value in memory: `RestsAs` in specs/Shown.antt, which is `rests` of
 //!    what contracts see of a journal.
 //! 2. The slot in use is at rest: nothing of it is pending, and behind its last region stands a closed gate or the file's
-//!    end: `at_rest`, `current` of `Gives`.
+//!    end: `at_rest`, `current` of `RestsAs`.
 //! 3. A crash at any moment of a call leaves the family's files to give one of the values that the call names, and the
 //!    files of the other families as a crash before the call might have left them: `Moves` in specs/Writes.antt. Of the
 //!    first a store may say nothing (`told` of `Held` in specs/Shown.antt); a journal always tells.
@@ -28,8 +28,8 @@
 //!    journal that wants it then has failed: `untouched` of `IsRefused`.
 //!
 //! A call of a store is stated by one record, over what is seen of the store before and after it (`Shown`) and what the
-//! call writes (`Change`): `Writes` for a call that changes the value, `Syncs` for a flush, `Ends` for the last call,
-//! `Opens` for an opening, `Stands` for what each needs. `Lies` has what a caller may take of any store: only its own
+//! call writes (`Effect`): `Writes` for a call that changes the value, `Syncs` for a flush, `Ends` for the last call,
+//! `Opens` for an opening, `StoreStands` for what each needs. `Lies` has what a caller may take of any store: only its own
 //! family's files count, and where it tells what they give, a crash of files at rest gives its value.
 //!
 //!     let mut journal = Journal::<LastState>::open(alloc, &mut disk)?;

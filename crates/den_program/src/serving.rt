@@ -5,7 +5,7 @@ ghost use Rattle.den_codec.specs.declared.error.Error.TheVariants.{OutOfMemory};
 ghost use Rattle.den_codec.specs.Standard.{IsStandard};
 ghost use Rattle.den_server.specs.Causes.{IsTurnedAway};
 ghost use Rattle.den_server.specs.Opening.{refusal_in};
-ghost use Rattle.den_server.specs.Promises.{Served, KeepsLogShort, SendsPrefix, SurvivesCrash, SurvivesPending, EndsEarly, TurnsAway, Completes, GoesOn};
+ghost use Rattle.den_server.specs.Promises.{Served, KeepsLogShort, SendsPrefix, SurvivesCrash, SurvivesPending, EndsEarly, TurnsAway, Completes, AllGoOn};
 ghost use Rattle.den_program.specs.Serving.{standard_run, EndsWith, IsRefusedStatus, IsLine, IsLineFront};
 ghost use Rattle.den_program.specs.Status.{status_of_error};
 ghost use Rattle.den_program.specs.Words.{folder_in};
@@ -45,7 +45,7 @@ fn serve_words<D: Disk, L: Link, C: Clock>(
     ensures refused { IfSome result (λ answer. IfErr answer (EndsEarly D.Disk L.Link disk.old disk.new link.old link.new)) }
     ensures turned_away { (result ≡ None → ⊥) → TurnsAway D.Disk (λ e. IfSome result (IsTurnedAway e)) disk.old disk.new link.old link.new clock.old clock.new }
     ensures complete { (result ≡ None → ⊥) → Completes D.Disk L.Link disk.old disk.new link.old link.new (result ≡ Some (Ok tt)) (result ≡ Some (Err OutOfMemory)) }
-    ensures goes_on { GoesOn D.Disk L.Link C.Clock disk.old disk.new link.old link.new clock.old clock.new }
+    ensures goes_on { AllGoOn D.Disk L.Link C.Clock disk.old disk.new link.old link.new clock.old clock.new }
     ensures usage { (folder_in (map string_bytes words.now) ≡ None) ↔ (result ≡ None) }
     ensures untouched { result ≡ None → (disk.new ≡ disk.old) × (link.new ≡ link.old) × (clock.new ≡ clock.old) }
 {
@@ -105,7 +105,7 @@ pub fn serve_main<D: Disk, L: Link, C: Clock, S: Source, E: Sink>(
 
     // Disk, link and clock go on as over any call; the files of the snapshot stay as they are, and a crash leaves them as it
     // could at entry.
-    ensures goes_on { GoesOn D.Disk L.Link C.Clock disk.old disk.new link.old link.new clock.old clock.new }
+    ensures goes_on { AllGoOn D.Disk L.Link C.Clock disk.old disk.new link.old link.new clock.old clock.new }
 
     // Exactly the status's line was written where the count of the sink did not rise, else a front of it.
     ensures errs { SinkGoesOn E.tells E.written E.faults errs.old errs.new }

@@ -7,18 +7,18 @@ use Rattle.den_disk.specs.declared.place.Family.TheVariants.{Snapshot}
 use Rattle.den_disk.specs.Files.{Files, Kind, IsImage}
 use Rattle.den_disk.specs.Goes.{DiskGoesOn}
 use Rattle.den_model.specs.Image.{durable_in}
-use Rattle.den_journal.specs.Writes.{Tells}
+use Rattle.den_journal.specs.Writes.{DiskTells}
 use Rattle.den_core.specs.Spared.{SparesFamily}
 use Rattle.den_core.proofs.GoesOn.{disk_same, link_same, clock_same}
 use Rattle.den_core.proofs.Spared.{spares_still}
-use Rattle.den_server.specs.Promises.{RunConfig, SendsPrefix, SurvivesCrash, SurvivesPending, GoesOn, start}
+use Rattle.den_server.specs.Promises.{RunConfig, SendsPrefix, SurvivesCrash, SurvivesPending, AllGoOn, start}
 use Rattle.den_server.proofs.Settled.{no_call, never_settles, settled_survives}
 use Rattle.den_server.proofs.Surviving.{all_along, no_reading, opening_front, reading_image}
 
 module _ {D L C : Type 0} (disk : Disks D) (link : Links L) (clock : Clocks C) where
   -- no call but of the disk was made
   pub disk_alone : (old new : D) (l : L) (c : C) → DiskGoesOn disk.kind disk.moment disk.images disk.faults old new
-      → (Tells disk old → SparesFamily Snapshot disk.content disk.moment disk.images old new) → GoesOn disk link clock old new l l c c
+      → (DiskTells disk old → SparesFamily Snapshot disk.content disk.moment disk.images old new) → AllGoOn disk link clock old new l l c c
   disk_alone old new l c goes spares = record {
     disk_goes_on = goes;
     link_goes_on = link_same link.tells link.sent link.budget link.taken link.faults l;
@@ -27,19 +27,19 @@ module _ {D L C : Type 0} (disk : Disks D) (link : Links L) (clock : Clocks C) w
   }
 
   -- no call was made
-  pub no_call_goes_on : (d : D) (l : L) (c : C) → GoesOn disk link clock d d l l c c
+  pub no_call_goes_on : (d : D) (l : L) (c : C) → AllGoOn disk link clock d d l l c c
   no_call_goes_on d l c = disk_alone d d l c (disk_same disk.kind disk.moment disk.images disk.faults d) (λ told. spares_still Snapshot disk.content disk.moment disk.images d)
 
   module _ (config : RunConfig) (old new : D) (from to : L) (before after : C) where
     -- where each image at entry stands for one durable part, the crash clause holds from entry on
-    pub survives_all_along : (ended_well : Type 0) → ((files : Files) → Tells disk old → disk.images old (disk.moment old) files ↔ IsImage (disk.content old) files)
+    pub survives_all_along : (ended_well : Type 0) → ((files : Files) → DiskTells disk old → disk.images old (disk.moment old) files ↔ IsImage (disk.content old) files)
         → SurvivesPending disk link clock config old new from to before after ended_well → SurvivesCrash disk link clock config old new from to before after
     survives_all_along ended_well now pending = λ kept told stands.
         all_along durable_in (disk.images old) (disk.images new) (disk.moment old) (disk.moment new) _ _ _ (start config kept) _ stands
         (pending kept told (stands.each (disk.content old).reading ((now (disk.content old).reading told.disk_tells).1 (reading_image (disk.content old)))))
 
     -- at every exit what was sent is a front of the plan's output
-    pub sends_prefix : (ended_well : Type 0) → disk.kind new ≡ disk.kind old → ((files : Files) → Tells disk new → disk.images new (disk.moment new) files ↔ IsImage (disk.content new) files)
+    pub sends_prefix : (ended_well : Type 0) → disk.kind new ≡ disk.kind old → ((files : Files) → DiskTells disk new → disk.images new (disk.moment new) files ↔ IsImage (disk.content new) files)
         → SurvivesPending disk link clock config old new from to before after ended_well → SendsPrefix disk link clock config old new from to before after
     sends_prefix ended_well same now pending = λ kept told reads.
         opening_front durable_in (disk.images old) (disk.images new) (disk.moment old) (disk.moment new) _ _ _ _ _ (disk.content new).reading

@@ -11,7 +11,7 @@ use Rattle.den_codec.specs.declared.error.Error.{Error}
 use Rattle.den_codec.specs.Standard.{running_of}
 use Rattle.den_model.specs.declared.running.Running.{Running}
 use Rattle.den_model.specs.Crash.{IsServed, Stands, Survives, bytes_of}
-use Rattle.den_model.specs.Crash.{Tells as AllTell}
+use Rattle.den_model.specs.Crash.{Tells}
 use Rattle.den_model.specs.Frames.{frames}
 use Rattle.den_model.specs.Image.{durable_in, log_in, ok}
 use Rattle.den_model.specs.Kv.{Durable, Kv}
@@ -19,7 +19,7 @@ use Rattle.den_model.specs.Log.{Log}
 use Rattle.den_model.specs.Plan.{output, plan_over}
 use Rattle.den_model.specs.Sizes.{files_size}
 use Rattle.den_model.specs.Step.{Step}
-use Rattle.den_journal.specs.Writes.{Faulted, Tells}
+use Rattle.den_journal.specs.Writes.{Faulted, DiskTells}
 use Rattle.den_core.specs.Making.{GivesShortLog}
 use Rattle.den_core.specs.Spared.{SparesFamily}
 use Rattle.den_server.specs.Causes.{IsMuch, IsRunRefusal}
@@ -45,7 +45,7 @@ module _ {D L C : Type 0} (disk : Disks D) (link : Links L) (clock : Clocks C) w
   module _ (config : RunConfig) (old new : D) (from to : L) (before after : C) where
     -- disk and link tell their bytes, and the clock still tells
     abbrev pub Told : Type 0
-    Told = AllTell (disk.kind old).tells (link.tells from) (clock.tells after)
+    Told = Tells (disk.kind old).tells (link.tells from) (clock.tells after)
 
     -- what is read at entry stands for this
     abbrev pub Reads : Durable → Type 0
@@ -70,7 +70,7 @@ module _ {D L C : Type 0} (disk : Disks D) (link : Links L) (clock : Clocks C) w
 
     -- each image of the disk gives a log of no more entries than the configuration allows
     abbrev pub KeepsLogShort : Type 0
-    KeepsLogShort = Tells disk old → GivesShortLog (λ files. ok (log_in files)) (disk.images new) (disk.moment new) config.max_log_entries
+    KeepsLogShort = DiskTells disk old → GivesShortLog (λ files. ok (log_in files)) (disk.images new) (disk.moment new) config.max_log_entries
 
     -- what was sent is a front of the plan's output
     abbrev pub SendsPrefix : Type 0
@@ -93,24 +93,24 @@ module _ {D L C : Type 0} (disk : Disks D) (link : Links L) (clock : Clocks C) w
 
   -- Disk, link and clock go on as they do over any call; the files of the snapshot stay as they are, and a crash leaves
   -- them as it could at entry.
-  pub record GoesOn (old new : D) (from to : L) (before after : C) : Type 0 where
+  pub record AllGoOn (old new : D) (from to : L) (before after : C) : Type 0 where
     pub disk_goes_on : DiskGoesOn disk.kind disk.moment disk.images disk.faults old new
     pub link_goes_on : LinkGoesOn link.tells link.sent link.budget link.taken link.faults from to
     pub clock_goes_on : ClockGoesOn clock.tells clock.readings before after
-    pub snapshot : Tells disk old → SparesFamily Snapshot disk.content disk.moment disk.images old new
+    pub snapshot : DiskTells disk old → SparesFamily Snapshot disk.content disk.moment disk.images old new
 
 -- ---- why it ends early
 
 -- Files that are to be refused are: nothing is written, read, sent or timed.
 abbrev pub TurnsAway : {D L C : Type 0} (disk : Disks D) (refused : Error → Type 0) (old new : D) (from to : L) (before after : C) → Type 0
-TurnsAway disk refused old new from to before after = (e : Error) → Tells disk old → refusal_in (disk.content old).reading ≡ Some e
+TurnsAway disk refused old new from to before after = (e : Error) → DiskTells disk old → refusal_in (disk.content old).reading ≡ Some e
     → refused e × IsUnwritten (disk.content old) (disk.content new) (NoNewImages (disk.images old) (disk.images new) (disk.moment old) (disk.moment new))
     × (to ≡ from) × (after ≡ before)
 
 module _ {D L : Type 0} (disk : Disks D) (link : Links L) (old new : D) (from to : L) where
   -- Files that are not refused and an input, neither of them much, are served, but for faults and want of memory.
   abbrev pub Completes : (served memory : Type 0) → Type 0
-  Completes served memory = Tells disk old → IsTrue (link.tells from) → refusal_in (disk.content old).reading ≡ None
+  Completes served memory = DiskTells disk old → IsTrue (link.tells from) → refusal_in (disk.content old).reading ≡ None
       → (Faulted disk old new → ⊥) → (Rose (link.faults from) (link.faults to) → ⊥)
       → (IsMuch (disk.kind old).limit (files_size (disk.content old).reading + length (link.left from)) → ⊥) → served ⊎ memory
 
@@ -118,5 +118,5 @@ module _ {D L : Type 0} (disk : Disks D) (link : Links L) (old new : D) (from to
   -- disk is told to be full only with a room that is above its limit and that one of its slots would need at the end, and
   -- only where the bytes of its regions at entry and those taken from the link are much.
   abbrev pub EndsEarly : Error → Type 0
-  EndsEarly e = IsRunRefusal (Faulted disk old new) (Rose (link.faults from) (link.faults to)) (Tells disk old) (refusal_in (disk.content old).reading)
+  EndsEarly e = IsRunRefusal (Faulted disk old new) (Rose (link.faults from) (link.faults to)) (DiskTells disk old) (refusal_in (disk.content old).reading)
       (disk.content new).reading (disk.kind old).limit (files_size (disk.content old).reading) (link.taken to - link.taken from) e

@@ -2,7 +2,7 @@
 ghost use Rattle.std.specs.Prelude.{◌≡◌, Ok, Err, IsOk, OnOk, IfErr};
 ghost use Rattle.den_codec.specs.declared.error.Error.TheVariants.{OutOfMemory};
 ghost use Rattle.den_server.specs.Causes.{IsTurnedAway};
-ghost use Rattle.den_server.specs.Promises.{Served, KeepsLogShort, SendsPrefix, SurvivesCrash, SurvivesPending, EndsEarly, TurnsAway, Completes, GoesOn, run_config};
+ghost use Rattle.den_server.specs.Promises.{Served, KeepsLogShort, SendsPrefix, SurvivesCrash, SurvivesPending, EndsEarly, TurnsAway, Completes, AllGoOn, run_config};
 
 use crate::folder::open_folder;
 use den_codec::{Error, SoloConfig};
@@ -57,7 +57,7 @@ impl StandaloneEngine {
 
         // Disk, link and clock go on as over any call; the files of the snapshot stay as they are, and a crash leaves them
         // as it could at entry.
-        ensures goes_on { GoesOn D.Disk L.Link C.Clock disk.old disk.new link.old link.new clock.old clock.new }
+        ensures goes_on { AllGoOn D.Disk L.Link C.Clock disk.old disk.new link.old link.new clock.old clock.new }
     {
         let mut engine = match open_folder(alloc, disk, config.node()) {
             Ok(engine) => engine,

@@ -32,7 +32,7 @@ use Rattle.den_journal.specs.declared.journal.Journal.{Journal}
 use Rattle.den_journal.specs.Causes.{IsFullFor}
 use Rattle.den_journal.specs.Drafts.{Drafts, IsDrafting, Pushes}
 use Rattle.den_journal.specs.Shown.{rewrite_size}
-use Rattle.den_journal.specs.Writes.{Tells}
+use Rattle.den_journal.specs.Writes.{DiskTells}
 use Rattle.den_journal.proofs.Drafting.{drafts_then, full_for, push_wanting}
 use Rattle.den_state.specs.declared.stored_map.StoredMap.{StoredMap}
 use Rattle.den_state.specs.Checkpoint.{IsCheckpointSize, IsShortPage, IsWriting, Next, Steps, words_of}
@@ -110,7 +110,7 @@ module _ (fold : Ghosts StoredMap StateRegion) {D : Type 0} (disk : DiskGhosts D
       → length (open_regions words) + length word ≤ most → IsCheckpointSize m (length word) → Steps fold disk m was now old new most [] r
   pushed_steps was now old new words word r most p small meant = record {
     drafts = p.drafts;
-    full = IfErr-weaker r _ _ (λ e h. full_for (Tells disk old) (Tells disk old) fold.FAMILY (disk.content new).reading (length (open_regions words)) (length word) most (λ n. ⊥) (IsCheckpointSize m) e (λ t. t) small meant h) p.full;
+    full = IfErr-weaker r _ _ (λ e h. full_for (DiskTells disk old) (DiskTells disk old) fold.FAMILY (disk.content new).reading (length (open_regions words)) (length word) most (λ n. ⊥) (IsCheckpointSize m) e (λ t. t) small meant h) p.full;
     heavy = IfErr-weaker r _ _ (λ e h. more_heavy (disk.kind old).limit (length (open_regions words) + length word) most e small h) p.heavy;
   }
 
@@ -130,7 +130,7 @@ module _ (fold : Ghosts StoredMap StateRegion) {D : Type 0} (disk : DiskGhosts D
       → Steps fold disk m was mid old d most [] (Ok x) → Steps fold disk m mid now d new most vs r → Steps fold disk m was now old new most vs r
   steps_then was mid now old d new most vs x r held one two = record {
     drafts = drafts_then fold disk was mid now old d new vs x r (ap fold.value held) one.drafts two.drafts;
-    full = IfErr-weaker r _ _ (λ e h. later_full (Tells disk d) (Tells disk old) fold.FAMILY (disk.content new).reading most (λ n. ⊥) (IsCheckpointSize m) e (λ tells. subst (λ (k : Kind). IsTrue k.tells) (sym one.drafts.goes_on.same) tells) h) two.full;
+    full = IfErr-weaker r _ _ (λ e h. later_full (DiskTells disk d) (DiskTells disk old) fold.FAMILY (disk.content new).reading most (λ n. ⊥) (IsCheckpointSize m) e (λ tells. subst (λ (k : Kind). IsTrue k.tells) (sym one.drafts.goes_on.same) tells) h) two.full;
     heavy = subst (λ (n : ℕ). IfErr r (IsHeavy n most)) (ap (λ (k : Kind). k.limit) one.drafts.goes_on.same) two.heavy;
   }
 
@@ -140,7 +140,7 @@ module _ (fold : Ghosts StoredMap StateRegion) {D : Type 0} (disk : DiskGhosts D
   steps_by was now old new most vs (Ok x) drafts is = record { drafts = drafts; full = tt; heavy = tt }
   steps_by was now old new most vs (Err e) drafts is = record {
     drafts = drafts;
-    full = subst (IsFullFor (Tells disk old) fold.FAMILY (disk.content new).reading most (λ n. ⊥) (IsCheckpointSize m)) (sym is) tt;
+    full = subst (IsFullFor (DiskTells disk old) fold.FAMILY (disk.content new).reading most (λ n. ⊥) (IsCheckpointSize m)) (sym is) tt;
     heavy = subst (IsHeavy (disk.kind old).limit most) (sym is) tt;
   }
 
@@ -180,7 +180,7 @@ module _ (fold : Ghosts StoredMap StateRegion) {D : Type 0} (disk : DiskGhosts D
     wanting law (Ok x) is = absurd is
     wanting law (Err e) is = record {
       drafts = (push_wanting fold disk law was was old (words_of m w.pages) [] w.drafting refl refl (Err e) is).drafts;
-      full = subst (IsFullFor (Tells disk old) fold.FAMILY (disk.content old).reading most (λ n. ⊥) (IsCheckpointSize m)) (sym is) tt;
+      full = subst (IsFullFor (DiskTells disk old) fold.FAMILY (disk.content old).reading most (λ n. ⊥) (IsCheckpointSize m)) (sym is) tt;
       heavy = subst (IsHeavy (disk.kind old).limit most) (sym is) tt;
     }
 

@@ -16,8 +16,8 @@ use Rattle.den_codec.specs.Full.{IsHeavy}
 use Rattle.den_journal.specs.declared.journal.Journal.{Journal}
 use Rattle.den_journal.specs.Causes.{IsFullFor, IsTooShort}
 use Rattle.den_journal.specs.Journals.{journal_shown}
-use Rattle.den_journal.specs.Shown.{Change, Held, IsOneOf, Shown, seen_as}
-use Rattle.den_journal.specs.Writes.{Faulted, GoesOn, Moves, Tells, Writes}
+use Rattle.den_journal.specs.Shown.{Effect, Held, IsOneOf, Shown, seen_as}
+use Rattle.den_journal.specs.Writes.{Faulted, GoesOn, Moves, DiskTells, Writes}
 use Rattle.den_journal.proofs.Drafting.{later_cause}
 use Rattle.den_journal.proofs.Moving.{moves_behind}
 use Rattle.den_state.specs.contracts.stored_map.StoredMapFolded.TheImpl.{ghosts}
@@ -60,7 +60,7 @@ module _ {D : Type 0} (disk : DiskGhosts D) (was now : Journal StoredMap) (old n
   m = was.held.map
 
   -- each crash leaves the map
-  anew_moves : {T : Type 0} (r : Result T Error) → Renews ghosts disk was.held.map was now old new (journal_shown ghosts was).weight r → Tells disk old → Moves disk State map_held (was.held.map ∷ was.held.map ∷ []) old new
+  anew_moves : {T : Type 0} (r : Result T Error) → Renews ghosts disk was.held.map was now old new (journal_shown ghosts was).weight r → DiskTells disk old → Moves disk State map_held (was.held.map ∷ was.held.map ∷ []) old new
   anew_moves r a tells =
       let moves = a.steps.drafts.moves tells in
       record {
@@ -82,7 +82,7 @@ module _ {D : Type 0} (disk : DiskGhosts D) (was now : Journal StoredMap) (old n
     done = tt;
     refused = record {
       cause = a.steps.drafts.cause;
-      full = wider_full (Tells disk old) (Tells disk old × map_held.told) State (disk.content new).reading (journal_shown ghosts was).weight ((journal_shown ghosts was).weight + 0) (λ n. ⊥) (IsCheckpointSize was.held.map) (λ n. ⊥) (IsCheckpointSize was.held.map) e (λ t. t.0) (omega arith) (λ n h. h) (λ n h. h) a.steps.full;
+      full = wider_full (DiskTells disk old) (DiskTells disk old × map_held.told) State (disk.content new).reading (journal_shown ghosts was).weight ((journal_shown ghosts was).weight + 0) (λ n. ⊥) (IsCheckpointSize was.held.map) (λ n. ⊥) (IsCheckpointSize was.held.map) e (λ t. t.0) (omega arith) (λ n h. h) (λ n h. h) a.steps.full;
       heavy = more_heavy (disk.kind old).limit (journal_shown ghosts was).weight ((journal_shown ghosts was).weight + 0) e (omega arith) a.steps.heavy;
       untouched = λ _. inr (record {
         may_be = tt;
@@ -96,7 +96,7 @@ module _ {D : Type 0} (disk : DiskGhosts D) (was now : Journal StoredMap) (old n
 
 -- ---- behind a change
 
-module _ {D : Type 0} (disk : DiskGhosts D) (holds : Held MapState) (was mid now : Shown MapState) (old d new : D) (change : Change MapState) where
+module _ {D : Type 0} (disk : DiskGhosts D) (holds : Held MapState) (was mid now : Shown MapState) (old d new : D) (change : Effect MapState) where
   goes_then : GoesOn disk old d → GoesOn disk d new → GoesOn disk old new
   goes_then one two = record {
     same = two.same ∙ one.same;
@@ -112,13 +112,13 @@ module _ {D : Type 0} (disk : DiskGhosts D) (holds : Held MapState) (was mid now
   }
 
   module _ {S : Type 0} (x : S) (one : Writes disk was mid old d State holds change (Ok x)) where
-    on : Tells disk old → Tells disk d
+    on : DiskTells disk old → DiskTells disk d
     on tells = subst (λ (k : Kind). IsTrue k.tells) (sym one.goes_on.same) tells
 
     both : (found : _) → IsOneOf (mid.value ∷ mid.value ∷ []) found → found ≡ Some change.to
     both found h = ⊎_elim (λ a. a) (λ b. b) h ∙ ap (λ (n : MapState). Some n) one.done.value
 
-    moves_both : {T : Type 0} (r : Result T Error) → Writes disk mid now d new State holds (renew_change mid.value) r → Tells disk old → Moves disk State holds (was.value ∷ change.to ∷ []) old new
+    moves_both : {T : Type 0} (r : Result T Error) → Writes disk mid now d new State holds (renew_change mid.value) r → DiskTells disk old → Moves disk State holds (was.value ∷ change.to ∷ []) old new
     moves_both r two tells =
         let moves = two.moves (on tells) in
         moves_behind one.goes_on two.goes_on tells was.value change.to (one.moves tells)
@@ -148,7 +148,7 @@ module _ {D : Type 0} (disk : DiskGhosts D) (holds : Held MapState) (was mid now
       done = tt;
       refused = record {
         cause = later_cause (Faulted disk d new) (Faulted disk old new) (disk.kind old).limit (disk.kind d).limit e (later_rose (disk.faults old) (disk.faults d) (disk.faults new) one.goes_on.counts) (ap (λ (k : Kind). k.limit) one.goes_on.same) two.refused.cause;
-        full = wider_full (Tells disk d × holds.told) (Tells disk old × holds.told) State (disk.content new).reading (mid.weight + 0) (was.weight + change.rise) (λ n. ⊥) (IsCheckpointSize mid.value) change.adds change.drafts e (λ t. (on t.0, t.1))
+        full = wider_full (DiskTells disk d × holds.told) (DiskTells disk old × holds.told) State (disk.content new).reading (mid.weight + 0) (was.weight + change.rise) (λ n. ⊥) (IsCheckpointSize mid.value) change.adds change.drafts e (λ t. (on t.0, t.1))
             (omega (arith, one.done.weight)) (λ n h. absurd h) (λ n h. drafts n (subst (λ (v : MapState). IsCheckpointSize v n) one.done.value h)) two.refused.full;
         heavy = subst (λ (n : ℕ). IsHeavy n (was.weight + change.rise) e) (ap (λ (k : Kind). k.limit) one.goes_on.same)
             (more_heavy (disk.kind d).limit (mid.weight + 0) (was.weight + change.rise) e (omega (arith, one.done.weight)) two.refused.heavy);

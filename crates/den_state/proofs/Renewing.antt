@@ -20,7 +20,7 @@ use Rattle.den_map.proofs.Rebuilding.{rebuilt, with_both}
 use Rattle.den_journal.specs.declared.journal.Journal.{Journal}
 use Rattle.den_journal.specs.Drafts.{Commits, IsCommitted}
 use Rattle.den_journal.specs.Journals.{journal_shown}
-use Rattle.den_journal.specs.Writes.{Tells}
+use Rattle.den_journal.specs.Writes.{DiskTells}
 use Rattle.den_state.specs.contracts.stored_map.StoredMapFolded.TheImpl.{ghosts}
 use Rattle.den_state.specs.declared.stored_map.StoredMap.{StoredMap}
 use Rattle.den_state.specs.Checkpoint.{IsRenewed, IsWritten, Renews, Steps, words_of}
@@ -71,7 +71,7 @@ module _ {D : Type 0} (disk : DiskGhosts D) (was mid now : Journal StoredMap) (o
 
   pub anew_done : IsCommitted ghosts disk mid now d new (words_of was.held.map w.pages) → IsRenewed ghosts disk was.held.map was now old new most
   anew_done c =
-      let on : Tells disk old → Tells disk d = λ tells. subst (λ (k : Kind). IsTrue k.tells) (sym steps.drafts.goes_on.same) tells in
+      let on : DiskTells disk old → DiskTells disk d = λ tells. subst (λ (k : Kind). IsTrue k.tells) (sym steps.drafts.goes_on.same) tells in
       let size = front_small was.held.map w.pages [] (journal_shown ghosts was).weight w.short (append-nil (flat_map (λ page. page) w.pages) ∙ w.all) (omega arith) in
       let same = ap (λ (h : StoredMap). (journal_shown ghosts (record was { held = h })).weight) held in
       record {

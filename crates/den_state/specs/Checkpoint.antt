@@ -20,8 +20,8 @@ use Rattle.den_journal.specs.declared.journal.Journal.{Journal}
 use Rattle.den_journal.specs.Causes.{IsFullFor}
 use Rattle.den_journal.specs.Drafts.{Drafts, IsDrafting}
 use Rattle.den_journal.specs.Journals.{journal_shown}
-use Rattle.den_journal.specs.Shown.{Change, rewrite_size}
-use Rattle.den_journal.specs.Writes.{Tells}
+use Rattle.den_journal.specs.Shown.{Effect, rewrite_size}
+use Rattle.den_journal.specs.Writes.{DiskTells}
 use Rattle.den_state.specs.declared.stored_map.StoredMap.{StoredMap}
 
 -- a page of a checkpoint: one pair at least, and 65,536 bytes at most where it has more
@@ -52,7 +52,7 @@ abbrev pub IsCheckpointSize : MapState → ℕ → Type 0
 IsCheckpointSize m size = (size ≡ length (state_region_word (Begin m.mark.index m.mark.term))) ⊎ IsPageSize m size
 
 -- the same map, written anew, which may want memory between its parts
-abbrev pub renew_change : MapState → Change MapState
+abbrev pub renew_change : MapState → Effect MapState
 renew_change m = record { to = m; adds = λ n. ⊥; drafts = IsCheckpointSize m; rise = 0; lost = Unit {0} }
 
 -- ---- the calls that write it
@@ -85,7 +85,7 @@ module _ (fold : Ghosts StoredMap StateRegion) {D : Type 0} (disk : DiskGhosts D
     -- What calls on the draft leave, one or several, whatever comes of them: at each moment a crash leaves the map, which stays.
     pub record Steps {T : Type 0} (most : ℕ) (values : List fold.Value) (result : Result T Error) : Type 0 where
       pub drafts : Drafts fold disk was now old new (fold.value was.held ∷ values) result
-      pub full : IfErr result (IsFullFor (Tells disk old) fold.FAMILY (disk.content new).reading most (λ n. ⊥) (IsCheckpointSize m))
+      pub full : IfErr result (IsFullFor (DiskTells disk old) fold.FAMILY (disk.content new).reading most (λ n. ⊥) (IsCheckpointSize m))
       pub heavy : IfErr result (IsHeavy (disk.kind old).limit most)
 
     -- A call that adds the next page to the draft, if one is left, behind this key.
@@ -100,8 +100,8 @@ module _ (fold : Ghosts StoredMap StateRegion) {D : Type 0} (disk : DiskGhosts D
       pub value : fold.value now.held ≡ fold.renewed (fold.value was.held)
       pub weight : (journal_shown fold now).weight ≤ most
       pub ready : (journal_shown fold now).ready
-      pub rests : Tells disk old → (journal_shown fold now).rests (disk.content new)
-      pub list : Tells disk old → IsCheckpoint m (payloads now.gate (disk.content new).reading)
+      pub rests : DiskTells disk old → (journal_shown fold now).rests (disk.content new)
+      pub list : DiskTells disk old → IsCheckpoint m (payloads now.gate (disk.content new).reading)
 
     -- a call that writes the map anew
     pub record Renews {T : Type 0} (most : ℕ) (result : Result T Error) : Type 0 where

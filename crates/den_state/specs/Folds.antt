@@ -13,11 +13,11 @@ use Rattle.den_model.proofs.RoundTrips.{state_region_again}
 use Rattle.den_map.specs.Sizes.{pairs_size}
 use Rattle.den_map.proofs.Sizing.{region_sized}
 use Rattle.den_map.specs.Tail.{tail_after, tail_after_payload}
-use Rattle.den_journal.specs.Folding.{Folds}
+use Rattle.den_journal.specs.Folding.{IsFold}
 use Rattle.den_journal.specs.Shown.{held_in}
 use Rattle.den_state.specs.Stored.{Stored, nothing_stored, stored_after, stored_from, stored_by, map_by, IsLawful}
 
-pub stored_fold : Folds stored_after stored_from
+pub stored_fold : IsFold stored_after stored_from
 unfolding stored_from
 stored_fold = record {
   stays = λ s. refl;

@@ -13,8 +13,8 @@ use Rattle.den_codec.specs.Full.{IsHeavy}
 use Rattle.den_model.specs.MapState.{MapState}
 use Rattle.den_journal.specs.Causes.{IsFullFor, IsRefusal}
 use Rattle.den_journal.specs.Lies.{Lies}
-use Rattle.den_journal.specs.Shown.{Change, Held, Shown}
-use Rattle.den_journal.specs.Writes.{Faulted, GoesOn, Moves, Tells}
+use Rattle.den_journal.specs.Shown.{Effect, Held, Shown}
+use Rattle.den_journal.specs.Writes.{Faulted, GoesOn, Moves, DiskTells}
 use Rattle.den_state.specs.Checkpoint.{IsCheckpoint}
 use Rattle.den_state.specs.declared.file_machine.SnapshotMetadata.{SnapshotMetadata}
 
@@ -47,11 +47,11 @@ pub record StaysAs {S : Type 0} (shown : S → Shown MapState) (short : S → Ty
 
 -- one region of this word was added to the slot
 abbrev pub Adds : {D : Type 0} → Ghosts D → (slot : Place) (old new : D) → List ℕ → Type 0
-Adds disk slot old new word = Tells disk old → payloads_of ((disk.content new).reading slot) ≡ payloads_of ((disk.content old).reading slot) ++ word ∷ []
+Adds disk slot old new word = DiskTells disk old → payloads_of ((disk.content new).reading slot) ≡ payloads_of ((disk.content old).reading slot) ++ word ∷ []
 
 -- the payloads of the slot are a checkpoint of the map
 abbrev pub HoldsCheckpoint : {D : Type 0} → Ghosts D → (slot : Place) (old new : D) → MapState → Type 0
-HoldsCheckpoint disk slot old new map = Tells disk old → IsCheckpoint map (payloads_of ((disk.content new).reading slot))
+HoldsCheckpoint disk slot old new map = DiskTells disk old → IsCheckpoint map (payloads_of ((disk.content new).reading slot))
 
 -- The files of a call that made a change: one region of this word more in the slot, which stays in use, or a checkpoint of
 -- the map in the one that is in use now.
@@ -61,11 +61,11 @@ AddsOrRenews disk slot now old new word map = ((now ≡ slot) × Adds disk slot 
 -- The last call of a store, which may write. What it leaves on the disk gives the value that it was to store, where the
 -- store tells what files give.
 module _ {D : Type 0} (disk : Ghosts D) where
-  pub record Closes {T V : Type 0} (was : Shown V) (old new : D) (family : Family) (holds : Held V) (change : Change V) (result : Result T Error) : Type 0 where
+  pub record Closes {T V : Type 0} (was : Shown V) (old new : D) (family : Family) (holds : Held V) (change : Effect V) (result : Result T Error) : Type 0 where
     pub goes_on : GoesOn disk old new
-    pub moves : Tells disk old → Moves disk family holds (was.value ∷ change.to ∷ []) old new
-    pub held : OnOk result (Tells disk old → holds.told → (files : Files) → disk.images new (disk.moment new) files → holds.of files ≡ Some change.to)
+    pub moves : DiskTells disk old → Moves disk family holds (was.value ∷ change.to ∷ []) old new
+    pub held : OnOk result (DiskTells disk old → holds.told → (files : Files) → disk.images new (disk.moment new) files → holds.of files ≡ Some change.to)
     pub cause : IfErr result (IsRefusal (Faulted disk old new) (disk.kind old).limit)
-    pub full : IfErr result (IsFullFor (Tells disk old × holds.told) family (disk.content new).reading (was.weight + change.rise) change.adds change.drafts)
+    pub full : IfErr result (IsFullFor (DiskTells disk old × holds.told) family (disk.content new).reading (was.weight + change.rise) change.adds change.drafts)
     pub heavy : IfErr result (IsHeavy (disk.kind old).limit (was.weight + change.rise))
     pub untouched : IfErr result (λ e. e ≡ OutOfMemory → new ≡ old)

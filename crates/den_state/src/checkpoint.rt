@@ -3,7 +3,7 @@ ghost use Rattle.std.specs.Prelude.{◌≡◌, ℕ, false, None, [], IsSome, OnO
 ghost use Rattle.den_model.specs.MapState.{MapState};
 ghost use Rattle.den_journal.specs.Drafts.{IsDrafting};
 ghost use Rattle.den_journal.specs.Journals.{journal_shown};
-ghost use Rattle.den_journal.specs.Writes.{Stands};
+ghost use Rattle.den_journal.specs.Writes.{StoreStands};
 ghost use Rattle.den_state.specs.Checkpoint.{IsWriting, IsWritten, Next, Steps, Renews};
 
 use crate::stored_map::StoredMap;
@@ -76,7 +76,7 @@ fn push_pages<D: Disk>(
 
 // Begins a draft with the stored mark.
 fn begin<D: Disk>(journal: &mut Journal<StoredMap>, disk: &mut D) -> Result<(), Error>
-    requires stands { Stands D.Disk (journal_shown ⟦<StoredMap as Folded>⟧ journal.old) disk.old }
+    requires stands { StoreStands D.Disk (journal_shown ⟦<StoredMap as Folded>⟧ journal.old) disk.old }
     ensures steps { Steps ⟦<StoredMap as Folded>⟧ D.Disk journal.old.held.map journal.old journal.new disk.old disk.new
         (journal_shown ⟦<StoredMap as Folded>⟧ journal.old).weight [] result }
     ensures writing { OnOk result (IsWriting ⟦<StoredMap as Folded>⟧ D.Disk journal.new.held.map
@@ -96,7 +96,7 @@ fn draft<D: Disk>(
     journal: &mut Journal<StoredMap>,
     disk: &mut D,
 ) -> Result<(), Error>
-    requires stands { Stands D.Disk (journal_shown ⟦<StoredMap as Folded>⟧ journal.old) disk.old }
+    requires stands { StoreStands D.Disk (journal_shown ⟦<StoredMap as Folded>⟧ journal.old) disk.old }
     ensures steps { Steps ⟦<StoredMap as Folded>⟧ D.Disk journal.old.held.map journal.old journal.new disk.old disk.new
         (journal_shown ⟦<StoredMap as Folded>⟧ journal.old).weight [] result }
     ensures written { OnOk result (IsWritten ⟦<StoredMap as Folded>⟧ D.Disk journal.old.held.map journal.new disk.new) }
@@ -114,7 +114,7 @@ pub(crate) fn write_anew<D: Disk>(
     journal: &mut Journal<StoredMap>,
     disk: &mut D,
 ) -> Result<(), Error>
-    requires stands { Stands D.Disk (journal_shown ⟦<StoredMap as Folded>⟧ journal.old) disk.old }
+    requires stands { StoreStands D.Disk (journal_shown ⟦<StoredMap as Folded>⟧ journal.old) disk.old }
     ensures renews { Renews ⟦<StoredMap as Folded>⟧ D.Disk journal.old.held.map journal.old journal.new disk.old disk.new
         (journal_shown ⟦<StoredMap as Folded>⟧ journal.old).weight result }
     ensures map { journal.new.held.map ≡ journal.old.held.map }

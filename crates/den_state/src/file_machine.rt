@@ -52,7 +52,7 @@ impl FileStateMachine {
     ghost use Rattle.den_lease.specs.Due.{has_due};
     ghost use Rattle.den_map.specs.Order.{out_of_order};
     ghost use Rattle.den_journal.specs.Causes.{IsOfDisk};
-    ghost use Rattle.den_journal.specs.Writes.{Opens, Stands, Writes};
+    ghost use Rattle.den_journal.specs.Writes.{Opens, StoreStands, Writes};
     ghost use Rattle.den_state.specs.Changes.{chunk_change, cleanup_change};
     ghost use Rattle.den_state.specs.Cleanup.{cleaned_where, removed_where};
     ghost use Rattle.std.specs.List.Sorted.{IsStrictlySortedBy};
@@ -97,7 +97,7 @@ impl FileStateMachine {
 
     // Applies entries that are in order and may live as long as they ask: one region of records.
     fn commit<D: Disk>(&mut self, disk: &mut D, chunk: &[Entry]) -> Result<Rows<ApplyResult>, Error>
-        requires stands { Stands D.Disk (state_shown self.old) disk.old }
+        requires stands { StoreStands D.Disk (state_shown self.old) disk.old }
         requires in_order { out_of_order (state_map self.old).mark.index chunk.now ≡ None }
         requires some { 1 ≤ length chunk.now }
         ensures writes { Writes D.Disk (state_shown self.old) (state_shown self.new) disk.old disk.new state_family map_held (chunk_change (state_shown self.old).value chunk.now) result }
@@ -128,7 +128,7 @@ impl FileStateMachine {
     /// Writes the map anew with the stored mark: as its beginning and pages of its pairs, without a record. A crash inside
     /// leaves the map. A refusal ends its use.
     pub fn checkpoint<D: Disk>(&mut self, disk: &mut D) -> Result<(), Error>
-        requires stands { Stands D.Disk (state_shown self.old) disk.old }
+        requires stands { StoreStands D.Disk (state_shown self.old) disk.old }
         ensures writes { Writes D.Disk (state_shown self.old) (state_shown self.new) disk.old disk.new state_family map_held (renew_change (state_shown self.old).value) result }
         ensures map { state_map self.new ≡ state_map self.old }
         ensures value { (state_shown self.new).value ≡ (state_shown self.old).value }
@@ -142,7 +142,7 @@ impl FileStateMachine {
 
     // The same where many records follow the last beginning.
     fn shorten<D: Disk>(&mut self, disk: &mut D) -> Result<(), Error>
-        requires stands { Stands D.Disk (state_shown self.old) disk.old }
+        requires stands { StoreStands D.Disk (state_shown self.old) disk.old }
         ensures writes { Writes D.Disk (state_shown self.old) (state_shown self.new) disk.old disk.new state_family map_held (renew_change (state_shown self.old).value) result }
         ensures map { state_map self.new ≡ state_map self.old }
         ensures value { (state_shown self.new).value ≡ (state_shown self.old).value }
@@ -160,7 +160,7 @@ impl FileStateMachine {
 
     // Applies entries, with a checkpoint behind them where many records follow the last one.
     fn apply<D: Disk>(&mut self, disk: &mut D, chunk: &[Entry]) -> Result<Rows<ApplyResult>, Error>
-        requires stands { Stands D.Disk (state_shown self.old) disk.old }
+        requires stands { StoreStands D.Disk (state_shown self.old) disk.old }
         requires in_order { out_of_order (state_map self.old).mark.index chunk.now ≡ None }
         requires some { 1 ≤ length chunk.now }
         ensures writes { Writes D.Disk (state_shown self.old) (state_shown self.new) disk.old disk.new state_family map_held (chunk_change (state_shown self.old).value chunk.now) result }
@@ -185,7 +185,7 @@ impl FileStateMachine {
 
     // Removes what has expired, where something has: one region of a record.
     fn remove<D: Disk>(&mut self, disk: &mut D, moment: Positive) -> Result<Rows<Blob>, Error>
-        requires stands { Stands D.Disk (state_shown self.old) disk.old }
+        requires stands { StoreStands D.Disk (state_shown self.old) disk.old }
         requires due { ((state_settings self.old).leased && has_due moment (state_map self.old).expiries) ≡ true }
         ensures writes { Writes D.Disk (state_shown self.old) (state_shown self.new) disk.old disk.new state_family map_held
             (cleanup_change (state_settings self.old).leased moment (state_shown self.old).value) result }
@@ -206,7 +206,7 @@ impl FileStateMachine {
 
     // The same, with a checkpoint behind it where many records follow the last one.
     fn clean<D: Disk>(&mut self, disk: &mut D, moment: Positive) -> Result<Rows<Blob>, Error>
-        requires stands { Stands D.Disk (state_shown self.old) disk.old }
+        requires stands { StoreStands D.Disk (state_shown self.old) disk.old }
         requires due { ((state_settings self.old).leased && has_due moment (state_map self.old).expiries) ≡ true }
         ensures writes { Writes D.Disk (state_shown self.old) (state_shown self.new) disk.old disk.new state_family map_held
             (cleanup_change (state_settings self.old).leased moment (state_shown self.old).value) result }

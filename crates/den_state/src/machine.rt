@@ -20,7 +20,7 @@ ghost use Rattle.den_map.specs.Scan.{keys_in};
 ghost use Rattle.den_journal.specs.Causes.{IsOfDisk};
 ghost use Rattle.den_journal.specs.Lies.{Lies};
 ghost use Rattle.den_journal.specs.Shown.{Held, Shown};
-ghost use Rattle.den_journal.specs.Writes.{Stands, Writes};
+ghost use Rattle.den_journal.specs.Writes.{StoreStands, Writes};
 ghost use Rattle.den_state.specs.Changes.{chunk_change, cleanup_change, mark_change, reset_change};
 ghost use Rattle.den_state.specs.Checkpoint.{IsCheckpointSize, renew_change};
 ghost use Rattle.den_state.specs.Chunk.{refusal_of_chunk};
@@ -59,7 +59,7 @@ pub trait StateMachine<D: Disk>: Drop {
     /// changes nothing. A crash inside leaves the old map with the old stored mark, or the new map. Where many records
     /// follow the last checkpoint, one is written behind the chunk.
     fn apply_chunk(&mut self, disk: &mut D, chunk: &[Entry]) -> Result<Rows<ApplyResult>, Error>
-        requires stands { Stands D.Disk (shown self.old) disk.old }
+        requires stands { StoreStands D.Disk (shown self.old) disk.old }
         ensures turned_away { IfSome (refusal_of_chunk (settings self.old).leased (map self.old).mark.index chunk.now)
             (λ e. (result ≡ Err e) × (self.new ≡ self.old) × (disk.new ≡ disk.old)) }
         ensures writes { refusal_of_chunk (settings self.old).leased (map self.old).mark.index chunk.now ≡ None
@@ -85,7 +85,7 @@ pub trait StateMachine<D: Disk>: Drop {
     /// Moves the applied mark and the stored one. A crash inside leaves the old map with the old stored mark, or the
     /// map with the new one.
     fn persist_last_applied(&mut self, disk: &mut D, last_applied: LogId) -> Result<(), Error>
-        requires stands { Stands D.Disk (shown self.old) disk.old }
+        requires stands { StoreStands D.Disk (shown self.old) disk.old }
         requires above { (map self.old).mark.index ≤ last_applied.index }
         ensures writes { Writes D.Disk (shown self.old) (shown self.new) disk.old disk.new state_family holds (mark_change (shown self.old).value last_applied) result }
         ensures map { OnOk result (map self.new ≡ record (map self.old) { mark = last_applied }) }
@@ -97,7 +97,7 @@ pub trait StateMachine<D: Disk>: Drop {
 
     /// Stores the applied mark. Where it is stored it writes nothing.
     fn save_hard_state(&mut self, disk: &mut D) -> Result<(), Error>
-        requires stands { Stands D.Disk (shown self.old) disk.old }
+        requires stands { StoreStands D.Disk (shown self.old) disk.old }
         ensures writes { Writes D.Disk (shown self.old) (shown self.new) disk.old disk.new state_family holds (mark_change (shown self.old).value (map self.old).mark) result }
         ensures map { map self.new ≡ map self.old }
         ensures nothing { (shown self.old).value.mark ≡ (map self.old).mark → (self.new ≡ self.old) × (disk.new ≡ disk.old) × IsOk result }
@@ -109,7 +109,7 @@ pub trait StateMachine<D: Disk>: Drop {
 
     /// Stores the applied mark, and lets the state machine go. Where it is stored it writes nothing.
     fn close(self, disk: &mut D) -> Result<(), Error>
-        requires stands { Stands D.Disk (shown self) disk.old }
+        requires stands { StoreStands D.Disk (shown self) disk.old }
         ensures closes { Closes D.Disk (shown self) disk.old disk.new state_family holds (mark_change (shown self).value (map self).mark) result }
         ensures nothing { (shown self).value.mark ≡ (map self).mark → (disk.new ≡ disk.old) × IsOk result }
         ensures region { OnOk result (((shown self).value.mark ≡ (map self).mark → ⊥) → Adds D.Disk (slot self) disk.old disk.new
@@ -119,7 +119,7 @@ pub trait StateMachine<D: Disk>: Drop {
     /// the removed keys, sorted. Without a lease, or where none has expired, it writes nothing. Where many records follow
     /// the last checkpoint, one is written behind the cleanup.
     fn lease_background_cleanup(&mut self, disk: &mut D, now: u64) -> Result<Rows<Blob>, Error>
-        requires stands { Stands D.Disk (shown self.old) disk.old }
+        requires stands { StoreStands D.Disk (shown self.old) disk.old }
         ensures writes { Writes D.Disk (shown self.old) (shown self.new) disk.old disk.new state_family holds
             (cleanup_change (settings self.old).leased (max now 1) (shown self.old).value) result }
         ensures cleaned { OnOk result (map self.new ≡ cleaned_where (settings self.old).leased (max now 1) (map self.old)) }
@@ -136,7 +136,7 @@ pub trait StateMachine<D: Disk>: Drop {
     /// Writes its files anew: the map with the stored mark, without a record. The map stays. A crash inside leaves it, and a
     /// refusal ends its use.
     fn flush(&mut self, disk: &mut D) -> Result<(), Error>
-        requires stands { Stands D.Disk (shown self.old) disk.old }
+        requires stands { StoreStands D.Disk (shown self.old) disk.old }
         ensures writes { Writes D.Disk (shown self.old) (shown self.new) disk.old disk.new state_family holds (renew_change (shown self.old).value) result }
         ensures map { map self.new ≡ map self.old }
         ensures value { (shown self.new).value ≡ (shown self.old).value }
@@ -149,7 +149,7 @@ pub trait StateMachine<D: Disk>: Drop {
     /// is applied then. A crash inside leaves the old map with the old stored mark, or the empty one; want of memory leaves
     /// all as it was, and a refusal of the disk ends its use.
     fn reset(&mut self, disk: &mut D) -> Result<(), Error>
-        requires stands { Stands D.Disk (shown self.old) disk.old }
+        requires stands { StoreStands D.Disk (shown self.old) disk.old }
         ensures writes { Writes D.Disk (shown self.old) (shown self.new) disk.old disk.new state_family holds reset_change result }
         ensures map { OnOk result (map self.new ≡ empty_map) }
         ensures same { IfErr result (λ e. map self.new ≡ map self.old) }

@@ -18,7 +18,7 @@ use Rattle.den_model.specs.Image.{hard_state_from}
 use Rattle.den_model.specs.Sizes.{entries_size, store_rise}
 use Rattle.den_model.specs.Reading.{log_region_in, hard_state_in}
 use Rattle.den_journal.specs.Drafts.{anew_words, IsSizeOf}
-use Rattle.den_journal.specs.Folding.{Folds}
+use Rattle.den_journal.specs.Folding.{IsFold}
 use Rattle.den_journal.specs.Shown.{rewrite_size}
 use Rattle.den_store.specs.Changes.{purge_words}
 use Rattle.den_store.specs.LastState.{state_after}
@@ -26,7 +26,7 @@ use Rattle.den_store.specs.Lookup.{entries_of, rest_region}
 
 -- ---- the log
 
-pub logs_fold : Folds log_after_payload log_from
+pub logs_fold : IsFold log_after_payload log_from
 unfolding log_from
 logs_fold = record {
   stays = λ l. refl;
@@ -124,7 +124,7 @@ state_step h r rs =
       | Some g ↦ refl
     ]
 
-pub states_fold : Folds state_after hard_state_from
+pub states_fold : IsFold state_after hard_state_from
 unfolding hard_state_from state_next
 states_fold = record {
   stays = λ h. refl;

@@ -11,7 +11,7 @@ ghost use Rattle.den_model.specs.declared.log_id.LogId.{LogId};
 ghost use Rattle.den_journal.specs.Causes.{IsOfDisk};
 ghost use Rattle.den_journal.specs.Lies.{Lies};
 ghost use Rattle.den_journal.specs.Shown.{Held, Shown};
-ghost use Rattle.den_journal.specs.Writes.{Ends, Stands, Syncs, Writes};
+ghost use Rattle.den_journal.specs.Writes.{Ends, StoreStands, Syncs, Writes};
 ghost use Rattle.den_store.specs.Changes.{log_change, purge_change, state_change};
 ghost use Rattle.den_store.specs.Lookup.{entry_at};
 ghost use Rattle.den_store.specs.Order.{IsInOrder};
@@ -33,7 +33,7 @@ pub trait LogStore<D: Disk>: Drop {
     /// Adds entries, in place of those held from the first one's index on. A crash inside leaves the old log or the new
     /// one.
     fn persist_entries(&mut self, disk: &mut D, entries: &[Entry]) -> Result<(), Error>
-        requires stands { Stands D.Disk (shown self.old) disk.old }
+        requires stands { StoreStands D.Disk (shown self.old) disk.old }
         requires rise { rise_from (floor (shown self.old).value + 1) entries.now ≡ true }
         ensures writes { Writes D.Disk (shown self.old) (shown self.new) disk.old disk.new log_family holds
             (log_change (shown self.old).value (Append entries.now)) result }
@@ -43,7 +43,7 @@ pub trait LogStore<D: Disk>: Drop {
     /// Takes out the entries up to a cutoff, which becomes the boundary, where its index is above the boundary's: the
     /// boundary and the entries above it are written anew. A crash inside leaves the old log or the new one.
     fn purge(&mut self, disk: &mut D, cutoff: LogId) -> Result<(), Error>
-        requires stands { Stands D.Disk (shown self.old) disk.old }
+        requires stands { StoreStands D.Disk (shown self.old) disk.old }
         ensures writes { Writes D.Disk (shown self.old) (shown self.new) disk.old disk.new log_family holds
             (purge_change (shown self.old).value cutoff) result }
         ensures same { IfErr result (λ e. IsOfDisk e → (shown self.new).value ≡ (shown self.old).value) }
@@ -51,7 +51,7 @@ pub trait LogStore<D: Disk>: Drop {
 
     /// Takes out the entries from an index on. A crash inside leaves the old log or the new one.
     fn truncate(&mut self, disk: &mut D, from_index: u64) -> Result<(), Error>
-        requires stands { Stands D.Disk (shown self.old) disk.old }
+        requires stands { StoreStands D.Disk (shown self.old) disk.old }
         ensures writes { Writes D.Disk (shown self.old) (shown self.new) disk.old disk.new log_family holds
             (log_change (shown self.old).value (Truncate from_index)) result }
         ensures same { IfErr result (λ e. IsOfDisk e → (shown self.new).value ≡ (shown self.old).value) };
@@ -63,7 +63,7 @@ pub trait LogStore<D: Disk>: Drop {
         from_index: u64,
         new_entries: &[Entry],
     ) -> Result<(), Error>
-        requires stands { Stands D.Disk (shown self.old) disk.old }
+        requires stands { StoreStands D.Disk (shown self.old) disk.old }
         requires above { IfSome (shown self.old).value.boundary (λ b. b.index < from_index) }
         requires rise { rise_from from_index new_entries.now ≡ true }
         ensures writes { Writes D.Disk (shown self.old) (shown self.new) disk.old disk.new log_family holds
@@ -72,19 +72,19 @@ pub trait LogStore<D: Disk>: Drop {
 
     /// Takes out all entries and the boundary. A crash inside leaves the old log or the empty one.
     fn reset(&mut self, disk: &mut D) -> Result<(), Error>
-        requires stands { Stands D.Disk (shown self.old) disk.old }
+        requires stands { StoreStands D.Disk (shown self.old) disk.old }
         ensures writes { Writes D.Disk (shown self.old) (shown self.new) disk.old disk.new log_family holds
             (log_change (shown self.old).value Reset) result }
         ensures same { IfErr result (λ e. IsOfDisk e → (shown self.new).value ≡ (shown self.old).value) };
 
     /// Puts all files on the disk. It takes no memory.
     fn flush(&mut self, disk: &mut D) -> Result<(), Error>
-        requires stands { Stands D.Disk (shown self.old) disk.old }
+        requires stands { StoreStands D.Disk (shown self.old) disk.old }
         ensures syncs { Syncs D.Disk (shown self.old) (shown self.new) disk.old disk.new log_family holds result };
 
     /// The last call: a flush.
     fn close(self, disk: &mut D) -> Result<(), Error>
-        requires stands { Stands D.Disk (shown self) disk.old }
+        requires stands { StoreStands D.Disk (shown self) disk.old }
         ensures ends { Ends D.Disk (shown self) disk.old disk.new log_family holds result };
 
     /// Whether a refusal of the disk left it of no more use. It is opened anew then.
@@ -139,14 +139,14 @@ pub trait MetaStore<D: Disk>: Drop {
     /// Saves a hard state: it is written anew, in place of the one before. A crash inside leaves the old one or the new
     /// one.
     fn save_hard_state(&mut self, disk: &mut D, state: &HardState) -> Result<(), Error>
-        requires stands { Stands D.Disk (shown self.old) disk.old }
+        requires stands { StoreStands D.Disk (shown self.old) disk.old }
         ensures writes { Writes D.Disk (shown self.old) (shown self.new) disk.old disk.new meta_family holds
             (state_change state.now) result }
         ensures same { IfErr result (λ e. IsOfDisk e → (shown self.new).value ≡ (shown self.old).value) };
 
     /// Puts all files on the disk. It takes no memory.
     fn flush(&mut self, disk: &mut D) -> Result<(), Error>
-        requires stands { Stands D.Disk (shown self.old) disk.old }
+        requires stands { StoreStands D.Disk (shown self.old) disk.old }
         ensures syncs { Syncs D.Disk (shown self.old) (shown self.new) disk.old disk.new meta_family holds result };
 
     /// Whether a refusal of the disk left it of no more use. It is opened anew then.

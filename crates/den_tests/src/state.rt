@@ -1,7 +1,7 @@
 //! The state machine: worked rows of swaps, refusals, marks, a scan, leases, a reset and the bytes of regions, and random
 //! work with stops in its midst beside a plain list of rows.
 ghost use Rattle.std.specs.Prelude.{◌≡◌, [], IfSome, OnOk};
-ghost use Rattle.den_journal.specs.Writes.{Stands};
+ghost use Rattle.den_journal.specs.Writes.{StoreStands};
 
 use den_codec::{
     ApplyResult, Blob, Command, Entry, Error, KvEntry, LeaseConfig, LogId, Rows, ScanResult,
@@ -176,7 +176,7 @@ fn make<D: Disk, M: StateMachine<D>>(
     disk: &mut D,
     work: &Work,
 ) -> Result<Answer, Error>
-    requires stands { Stands D.Disk (M.shown machine.old) disk.old }
+    requires stands { StoreStands D.Disk (M.shown machine.old) disk.old }
 {
     match work {
         Work::Chunk(writes) => {
@@ -237,8 +237,8 @@ fn move_mark<D: Disk, M: StateMachine<D>>(
     disk: &mut D,
     mark: LogId,
 ) -> Result<(), Error>
-    requires stands { Stands D.Disk (M.shown machine.old) disk.old }
-    ensures stands { OnOk result (Stands D.Disk (M.shown machine.new) disk.new) }
+    requires stands { StoreStands D.Disk (M.shown machine.old) disk.old }
+    ensures stands { OnOk result (StoreStands D.Disk (M.shown machine.new) disk.new) }
 {
     if mark.index < machine.last_applied().index {
         return Err(Error::StateMachineError);
@@ -254,7 +254,7 @@ fn store<D: Disk, M: StateMachine<D>>(
     mark: LogId,
     storing: Storing,
 ) -> Result<(), Error>
-    requires stands { Stands D.Disk (M.shown machine) disk.old }
+    requires stands { StoreStands D.Disk (M.shown machine) disk.old }
 {
     if mark.index < machine.last_applied().index {
         return Err(Error::StateMachineError);
@@ -302,7 +302,7 @@ fn refuses<D: Disk, M: StateMachine<D>>(
     chunk: &[Entry],
     error: Error,
 ) -> bool
-    requires stands { Stands D.Disk (M.shown machine.old) disk.old }
+    requires stands { StoreStands D.Disk (M.shown machine.old) disk.old }
 {
     let mark = machine.last_applied();
     let refused = machine.apply_chunk(disk, chunk) == Err(error);
@@ -666,7 +666,7 @@ fn flag_and_metadata(rt: HostRuntime) -> Result<(), Fail> {
 
 // Whether a reset leaves it without pair, expiry and mark, and without what was said of a snapshot.
 fn resets<D: Disk, M: StateMachine<D>>(machine: &mut M, disk: &mut D) -> Result<bool, Error>
-    requires stands { Stands D.Disk (M.shown machine.old) disk.old }
+    requires stands { StoreStands D.Disk (M.shown machine.old) disk.old }
 {
     machine.update_last_snapshot_metadata(said(2));
     machine.reset(disk)?;

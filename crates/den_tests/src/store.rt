@@ -2,7 +2,7 @@
 ghost use Rattle.std.specs.Prelude.{◌≡◌, ◌<◌, ◌+◌, true, IsTrue, IfSome, OnOk};
 ghost use Rattle.den_model.specs.Entries.{rise_from};
 ghost use Rattle.den_model.specs.Log.{floor};
-ghost use Rattle.den_journal.specs.Writes.{Stands};
+ghost use Rattle.den_journal.specs.Writes.{StoreStands};
 
 use crate::turn::{IN_A, IN_B, Turn, holds_turn};
 use den_codec::{Command, Entry, HardState, Label, LogId, VotedFor};
@@ -90,8 +90,8 @@ fn persist<D: Disk, G: LogStore<D>>(
     disk: &mut D,
     entries: &[Entry],
 ) -> Result<(), Fail>
-    requires stands { Stands D.Disk (G.shown log.old) disk.old }
-    ensures stands { OnOk result (Stands D.Disk (G.shown log.new) disk.new) }
+    requires stands { StoreStands D.Disk (G.shown log.old) disk.old }
+    ensures stands { OnOk result (StoreStands D.Disk (G.shown log.new) disk.new) }
 {
     if !is_above::<D, G>(log, entries) {
         return Err("entries at or below the boundary")?;
@@ -105,8 +105,8 @@ fn replace<D: Disk, G: LogStore<D>>(
     from: u64,
     entries: &[Entry],
 ) -> Result<(), Fail>
-    requires stands { Stands D.Disk (G.shown log.old) disk.old }
-    ensures stands { OnOk result (Stands D.Disk (G.shown log.new) disk.new) }
+    requires stands { StoreStands D.Disk (G.shown log.old) disk.old }
+    ensures stands { OnOk result (StoreStands D.Disk (G.shown log.new) disk.new) }
 {
     if !begins_above::<D, G>(log, from) || !rise_from(from, entries) {
         return Err("no entries above the boundary")?;
@@ -121,8 +121,8 @@ fn make<D: Disk, G: LogStore<D>>(
     alloc: Global,
     edit: Edit,
 ) -> Result<(), Fail>
-    requires stands { Stands D.Disk (G.shown log.old) disk.old }
-    ensures stands { OnOk result (Stands D.Disk (G.shown log.new) disk.new) }
+    requires stands { StoreStands D.Disk (G.shown log.old) disk.old }
+    ensures stands { OnOk result (StoreStands D.Disk (G.shown log.new) disk.new) }
 {
     match edit {
         Edit::Persist(pairs) => persist(log, disk, entries_of(alloc, pairs)?.as_slice()),
@@ -325,14 +325,14 @@ fn edits_a_log(rt: HostRuntime) -> Result<(), Fail> {
 
 // The last calls of a log.
 fn end<D: Disk, G: LogStore<D>>(mut log: G, disk: &mut D) -> Result<(), Fail>
-    requires stands { Stands D.Disk (G.shown log) disk.old }
+    requires stands { StoreStands D.Disk (G.shown log) disk.old }
 {
     log.flush(disk)?;
     Ok(log.close(disk)?)
 }
 
 fn save<D: Disk, T: MetaStore<D>>(meta: &mut T, disk: &mut D, state: &HardState) -> Result<(), Fail>
-    requires stands { Stands D.Disk (T.shown meta.old) disk.old }
+    requires stands { StoreStands D.Disk (T.shown meta.old) disk.old }
 {
     meta.save_hard_state(disk, state)?;
     Ok(meta.flush(disk)?)

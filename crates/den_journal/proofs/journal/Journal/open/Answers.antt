@@ -9,7 +9,7 @@ use Rattle.den_model.specs.Image.{slot_of, in_regions}
 use Rattle.den_model.specs.Sizes.{family_size}
 use Rattle.den_journal.specs.Folding.{IsUnread}
 use Rattle.den_journal.specs.Opening.{IsLoaded}
-use Rattle.den_journal.specs.Shown.{Gives, rewrite_size}
+use Rattle.den_journal.specs.Shown.{RestsAs, rewrite_size}
 use Rattle.den_journal.proofs.Full.{loaded_weight}
 use Rattle.den_journal.proofs.Opens.{loaded_meaning, unread_weaker, handed_on, not_opened, reads_on, reads_images, reads_spares, reads_settled}
 use Rattle.den_journal.proofs.journal.Journal.open.Goals as goal
@@ -75,13 +75,13 @@ returns-clause-opens g c =
         value = λ tells. loaded_meaning family (F.from F.empty) gate old mid (is_loaded tells) (c.load.ensures.spares tells) ∙ c.in_ok-held.ensures.read (on tells);
         weight = λ tells. opened_weight gate.end (F.size value) (family_size family old.reading) (loaded_weight family gate old mid (is_loaded tells) (c.load.ensures.spares tells)) (c.in_ok-held.ensures.size (on tells));
         rests = λ tells. let is = is_loaded tells in
-            let gives : Gives family (F.from F.empty) gate value mid = record {
+            let gives : RestsAs family (F.from F.empty) gate value mid = record {
               family_is = c.in_ok-gate.ensures.family ∙ c.FAMILY.ensures;
               at_rest = is.at_rest;
               current = is.current;
               means = c.in_ok-held.ensures.read (on tells);
             } in
-            subst (λ (k : Content). Gives family (F.from F.empty) gate value k) (sym (c.replay.ensures.disk.stays (on tells)).content_same) gives;
+            subst (λ (k : Content). RestsAs family (F.from F.empty) gate value k) (sym (c.replay.ensures.disk.stays (on tells)).content_same) gives;
       };
       refused = tt;
     }

@@ -10,7 +10,7 @@ use Rattle.den_journal.specs.Drafts.{anew_words, IsSizeOf, rewrite_change}
 use Rattle.den_journal.specs.Lies.{gives_hold}
 use Rattle.den_journal.specs.Refused.{refusal}
 use Rattle.den_journal.specs.Shown.{shown_of, held_in, rewrite_size}
-use Rattle.den_journal.specs.Writes.{IsRefused, Tells}
+use Rattle.den_journal.specs.Writes.{IsRefused, DiskTells}
 use Rattle.den_journal.proofs.Drafting.{anew_small, anew_weight, full_at, moves_over, rests_give}
 use Rattle.den_journal.proofs.Full.{refused_by}
 use Rattle.den_journal.proofs.Moving.{writes_lost, writes_refused}
@@ -124,8 +124,8 @@ returns-in-Err-clause-writes g c =
       refused = subst (λ (e : Error). IsRefused D was now d new F.FAMILY held change e) (sym (c.refusal.ensures ∙ ap (λ f. refusal f c.in-Err.error) c.FAMILY.ensures))
           (refused_by D was now d new F.FAMILY held change _ c.in-Err.error (λ ready. absurd (cc (c.in-Err.ensures.writes.failed refl, ready.1))) (inl c.make_room.ensures.same)
           (λ needed limit h. (h.0.limit_is, h.0.passes, h.0.least))
-          (λ needed limit h. subst (λ (ps : List (List ℕ)). IsFullFor (Tells D d × held.told) F.FAMILY (D.content new).reading (was.weight + change.rise) (λ n. ⊥) (IsSizeOf ps) (DiskFull needed limit)) list
-          (full_at (Tells D d × held.told) F.FAMILY j.gate.slot (D.content new) p h.0.at needed limit (was.weight + change.rise) h.0.within h.0.needed_is small
+          (λ needed limit h. subst (λ (ps : List (List ℕ)). IsFullFor (DiskTells D d × held.told) F.FAMILY (D.content new).reading (was.weight + change.rise) (λ n. ⊥) (IsSizeOf ps) (DiskFull needed limit)) list
+          (full_at (DiskTells D d × held.told) F.FAMILY j.gate.slot (D.content new) p h.0.at needed limit (was.weight + change.rise) h.0.within h.0.needed_is small
           (λ t. let rests = c.requires.stands.rests t.0 in
           let stops = h.0.stops t.0 in (
             rests.family_is,
