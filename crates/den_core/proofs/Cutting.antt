@@ -5,7 +5,7 @@ use Rattle.std.proofs.lemmas.List.{take-append-drop, take-append-le, length-take
 use Rattle.std.proofs.Math.Seq.{take-append-add}
 use borrow.Rule.Slice.PartMut.{put_mid, post_of}
 use Rattle.den_disk.specs.Goes.{LinkGoesOn}
-use Rattle.den_disk.specs.Pieces.{Gives, IsSized, taken_by}
+use Rattle.den_disk.specs.Pieces.{GivesPiece, IsSized, taken_by}
 use Rattle.den_disk.specs.declared.link.LinkFault.{LinkFault}
 use Rattle.den_disk.specs.declared.link.Piece.{Piece}
 use Rattle.den_disk.specs.declared.link.Piece.TheVariants.{Got}
@@ -53,8 +53,8 @@ counted_more before now left rest n fits is taken = omega (arith, ap length is, 
 pub got_sized : (piece : Piece) (n room : ℕ) → piece ≡ Got n → IsSized piece room → (0 < n) × (n ≤ room)
 got_sized piece n room is = subst (λ p. IsSized p room) is
 
-pub got_gives : (piece : Piece) (n : ℕ) (left rest buf : List ℕ) → piece ≡ Got n → Gives piece left rest buf → (n ≤ length left) × (take n buf ≡ take n left) × (rest ≡ drop n left)
-got_gives piece n left rest buf is = subst (λ p. Gives p left rest buf) is
+pub got_gives : (piece : Piece) (n : ℕ) (left rest buf : List ℕ) → piece ≡ Got n → GivesPiece piece left rest buf → (n ≤ length left) × (take n buf ≡ take n left) × (rest ≡ drop n left)
+got_gives piece n left rest buf is = subst (λ p. GivesPiece p left rest buf) is
 
 pub got_taken : (piece : Piece) (n : ℕ) → piece ≡ Got n → taken_by {E = LinkFault} (Ok piece) ≡ n
 got_taken piece n is = ap (λ p. taken_by {E = LinkFault} (Ok p)) is

@@ -11,7 +11,7 @@ use Rattle.den_model.specs.Kv.{Durable, Kv}
 use Rattle.den_model.specs.Plan.{after, output}
 use Rattle.den_model.specs.Step.{Step}
 use Rattle.den_model.proofs.Runs.{after_append}
-use Rattle.den_core.proofs.Spared.{Gives}
+use Rattle.den_core.proofs.Spared.{GivesAll}
 
 module _ (holds : Files → Option Durable) where
   -- of more steps, the same first ones
@@ -70,7 +70,7 @@ module _ (holds : Files → Option Durable) where
   }
 
   -- none
-  pub stays : (images : ℕ → Files → Type 0) (from to : ℕ) (kv : Kv) → Gives holds images from to kv.durable → Survives holds images from to [] kv []
+  pub stays : (images : ℕ → Files → Type 0) (from to : ℕ) (kv : Kv) → GivesAll holds images from to kv.durable → Survives holds images from to [] kv []
   stays images from to kv given = record {
     each = λ t files begun ended at. record { count = 0; within = omega arith; stands = given.each t files begun ended at; sent = record { rest = []; is = refl } };
     moments = tt;

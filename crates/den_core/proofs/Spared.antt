@@ -43,14 +43,14 @@ pub snapshot_state : snapshot_family ≡ state_family → ⊥
 snapshot_state e = cc
 
 -- each image at each of these moments gives x
-pub record Gives {X : Type 0} (holds : Files → Option X) (images : ℕ → Files → Type 0) (from to : ℕ) (x : X) : Type 0 where
+pub record GivesAll {X : Type 0} (holds : Files → Option X) (images : ℕ → Files → Type 0) (from to : ℕ) (x : X) : Type 0 where
   pub each : (t : ℕ) (files : Files) → from ≤ t → t ≤ to → images t files → holds files ≡ Some x
 
 -- a store whose files lie as it left them
 pub gives_now : {X : Type 0} (holds : Files → Option X) (rests : Content → Type 0) (images : ℕ → Files → Type 0) (now : ℕ) (content : Content) (x : X)
     → ((files : Files) → images now files ↔ IsImage content files)
     → ((files : Files) → rests content → IsImage content files → holds files ≡ Some x)
-    → rests content → Gives holds images now now x
+    → rests content → GivesAll holds images now now x
 gives_now holds rests images now content x is law rest = record {
   each = λ t files begun ended at. let same : t ≡ now = omega arith in
       law files rest ((is files).0 (subst (λ n. images n files) same at));
@@ -59,7 +59,7 @@ gives_now holds rests images now content x is law rest = record {
 -- another family's files are not touched
 pub spared : {X : Type 0} (holds : Files → Option X) (own mine : Family) (old_at new_at : ℕ → Files → Type 0) (from to : ℕ) (x : X)
     → (mine ≡ own → ⊥) → ((one other : Files) → SameOf mine one other → holds other ≡ holds one)
-    → Gives holds old_at from from x → SparesImages own old_at new_at from to → Gives holds new_at from to x
+    → GivesAll holds old_at from from x → SparesImages own old_at new_at from to → GivesAll holds new_at from to x
 spared holds own mine old_at new_at from to x apart law before spares = record {
   each = λ t files begun ended at. let found = spares.each t files begun ended at in
       law found.0 files (λ q is. found.2 q (λ same. apart (sym is ∙ same)))
@@ -121,7 +121,7 @@ joined_is a b c l h s p q r = ap (λ x. joined x b c) p ∙ ap (λ y. joined (So
 module _ (holdsG : Files → Option Log) (holdsT : Files → Option (Option HardState)) (holdsM : Files → Option MapState) (images : ℕ → Files → Type 0) (from to : ℕ) where
   -- a call on the log
   pub log_moves : (l l2 : Log) (h : Option HardState) (s : MapState) (d d2 : Durable) → durable l h s ≡ Some d → durable l2 h s ≡ Some d2
-      → OldOrNew holdsG images from to l l2 → Gives holdsT images from to h → Gives holdsM images from to s
+      → OldOrNew holdsG images from to l l2 → GivesAll holdsT images from to h → GivesAll holdsM images from to s
       → OldOrNew (λ files. joined (holdsG files) (holdsT files) (holdsM files)) images from to d d2
   log_moves l l2 h s d d2 is is2 moves meta state = record {
     each = λ t files begun ended at. ⊎_elim
@@ -132,7 +132,7 @@ module _ (holdsG : Files → Option Log) (holdsT : Files → Option (Option Hard
 
   -- a call on the hard state
   pub meta_moves : (l : Log) (h h2 : Option HardState) (s : MapState) (d d2 : Durable) → durable l h s ≡ Some d → durable l h2 s ≡ Some d2
-      → Gives holdsG images from to l → OldOrNew holdsT images from to h h2 → Gives holdsM images from to s
+      → GivesAll holdsG images from to l → OldOrNew holdsT images from to h h2 → GivesAll holdsM images from to s
       → OldOrNew (λ files. joined (holdsG files) (holdsT files) (holdsM files)) images from to d d2
   meta_moves l h h2 s d d2 is is2 log moves state = record {
     each = λ t files begun ended at. ⊎_elim
@@ -143,7 +143,7 @@ module _ (holdsG : Files → Option Log) (holdsT : Files → Option (Option Hard
 
   -- a call on the map
   pub state_moves : (l : Log) (h : Option HardState) (s s2 : MapState) (d d2 : Durable) → durable l h s ≡ Some d → durable l h s2 ≡ Some d2
-      → Gives holdsG images from to l → Gives holdsT images from to h → OldOrNew holdsM images from to s s2
+      → GivesAll holdsG images from to l → GivesAll holdsT images from to h → OldOrNew holdsM images from to s s2
       → OldOrNew (λ files. joined (holdsG files) (holdsT files) (holdsM files)) images from to d d2
   state_moves l h s s2 d d2 is is2 log meta moves = record {
     each = λ t files begun ended at. ⊎_elim
@@ -154,8 +154,8 @@ module _ (holdsG : Files → Option Log) (holdsT : Files → Option (Option Hard
 
   -- none
   pub all_give : (l : Log) (h : Option HardState) (s : MapState) (d : Durable) → durable l h s ≡ Some d
-      → Gives holdsG images from to l → Gives holdsT images from to h → Gives holdsM images from to s
-      → Gives (λ files. joined (holdsG files) (holdsT files) (holdsM files)) images from to d
+      → GivesAll holdsG images from to l → GivesAll holdsT images from to h → GivesAll holdsM images from to s
+      → GivesAll (λ files. joined (holdsG files) (holdsT files) (holdsM files)) images from to d
   all_give l h s d is log meta state = record {
     each = λ t files begun ended at. joined_is _ _ _ l h s (log.each t files begun ended at) (meta.each t files begun ended at) (state.each t files begun ended at) ∙ is;
   }
@@ -172,7 +172,7 @@ moves_then holds old_at new_at from mid to x y past one two = record {
 }
 
 -- nothing moved
-pub gives_old : {X : Type 0} (holds : Files → Option X) (images : ℕ → Files → Type 0) (from to : ℕ) (x y : X) → Gives holds images from to x → OldOrNew holds images from to x y
+pub gives_old : {X : Type 0} (holds : Files → Option X) (images : ℕ → Files → Type 0) (from to : ℕ) (x y : X) → GivesAll holds images from to x → OldOrNew holds images from to x y
 gives_old holds images from to x y given = record { each = λ t files begun ended at. inl (given.each t files begun ended at) }
 
 pub spares_none : (own : Family) (images : ℕ → Files → Type 0) (now : ℕ) → SparesImages own images images now now
@@ -181,7 +181,7 @@ spares_none own images now = record {
 }
 
 -- a call that moves nothing
-pub same_gives : {X : Type 0} (holds : Files → Option X) (images : ℕ → Files → Type 0) (from to : ℕ) (x : X) → OldOrNew holds images from to x x → Gives holds images from to x
+pub same_gives : {X : Type 0} (holds : Files → Option X) (images : ℕ → Files → Type 0) (from to : ℕ) (x : X) → OldOrNew holds images from to x x → GivesAll holds images from to x
 same_gives holds images from to x moves = record { each = λ t files begun ended at. ⊎_elim (λ old. old) (λ new. new) (moves.each t files begun ended at) }
 
 pub on_ok_just : {T E P : Type 0} (r : Result T E) → P → OnOk r P
@@ -192,7 +192,7 @@ on_ok_just (Err e) p = tt
 pub all_at_rest : (holdsG : Files → Option Log) (holdsT : Files → Option (Option HardState)) (holdsM : Files → Option MapState) (images : ℕ → Files → Type 0) (now : ℕ) (content : Content)
     (l : Log) (h : Option HardState) (s : MapState) → IsCaughtUp l s → ((files : Files) → images now files ↔ IsImage content files)
     → ((files : Files) → IsImage content files → holdsG files ≡ Some l) → ((files : Files) → IsImage content files → holdsT files ≡ Some h) → ((files : Files) → IsImage content files → holdsM files ≡ Some s)
-    → Gives (λ files. joined (holdsG files) (holdsT files) (holdsM files)) images now now (durable_of h s)
+    → GivesAll (λ files. joined (holdsG files) (holdsT files) (holdsM files)) images now now (durable_of h s)
 all_at_rest holdsG holdsT holdsM images now content l h s caught law log meta state = record {
   each = λ t files begun ended at.
       let same : t ≡ now = omega arith in

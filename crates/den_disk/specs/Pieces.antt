@@ -10,9 +10,9 @@ taken_by (Ok End) = 0
 taken_by (Err e) = 0
 
 -- What a read of a telling link or source gives: the next bytes, or the end exactly where none are left.
-abbrev pub Gives : Piece → List ℕ → List ℕ → List ℕ → Type 0
-Gives (Got n) left rest buf = (n ≤ length left) × (take n buf ≡ take n left) × (rest ≡ drop n left)
-Gives End left rest buf = (left ≡ []) × (rest ≡ [])
+abbrev pub GivesPiece : Piece → List ℕ → List ℕ → List ℕ → Type 0
+GivesPiece (Got n) left rest buf = (n ≤ length left) × (take n buf ≡ take n left) × (rest ≡ drop n left)
+GivesPiece End left rest buf = (left ≡ []) × (rest ≡ [])
 
 -- a piece is not empty, and fits the buffer
 abbrev pub IsSized : Piece → ℕ → Type 0

@@ -1,7 +1,7 @@
 //! A link: the way in for requests, and the way out for replies.
 ghost use Rattle.std.specs.Prelude.{◌≡◌, ℕ, ◌+◌, ◌<◌, ◌≤◌, Bool, IsTrue, List, ◌++◌, length, OnOk, OnErr, IfOk, IsErr};
 ghost use Rattle.den_disk.specs.Goes.{Rose, IsPrefix, stamped, LinkGoesOn};
-ghost use Rattle.den_disk.specs.Pieces.{Gives, IsSized, taken_by};
+ghost use Rattle.den_disk.specs.Pieces.{GivesPiece, IsSized, taken_by};
 
 use crate::Disk;
 
@@ -42,7 +42,7 @@ pub trait Link {
         ensures on { LinkGoesOn tells sent budget taken faults self.old self.new }
         ensures sized { IfOk result (λ piece. IsSized piece (length buf.old)) }
         ensures taken { taken self.new ≡ taken self.old + taken_by result }
-        ensures gives { IfOk result (λ piece. IsTrue (tells self.old) → Gives piece (left self.old) (left self.new) buf.new) }
+        ensures gives { IfOk result (λ piece. IsTrue (tells self.old) → GivesPiece piece (left self.old) (left self.new) buf.new) }
         ensures kept { OnErr result (IsTrue (tells self.old) → left self.new ≡ left self.old) }
         ensures sent { IsTrue (tells self.old) → sent self.new ≡ sent self.old }
         ensures spent { budget self.old ≤ taken self.old → IsErr result }

@@ -1,7 +1,7 @@
 //! Where a configuration is read from.
 ghost use Rattle.std.specs.Prelude.{◌≡◌, ℕ, ◌<◌, Bool, IsTrue, List, length, OnErr, IfOk};
 ghost use Rattle.den_disk.specs.Goes.{Rose, SourceGoesOn};
-ghost use Rattle.den_disk.specs.Pieces.{Gives, IsSized};
+ghost use Rattle.den_disk.specs.Pieces.{GivesPiece, IsSized};
 
 use crate::Piece;
 
@@ -25,7 +25,7 @@ pub trait Source {
         requires { 0 < length buf.old }
         ensures on { SourceGoesOn tells faults self.old self.new }
         ensures sized { IfOk result (λ piece. IsSized piece (length buf.old)) }
-        ensures gives { IfOk result (λ piece. IsTrue (tells self.old) → Gives piece (left self.old) (left self.new) buf.new) }
+        ensures gives { IfOk result (λ piece. IsTrue (tells self.old) → GivesPiece piece (left self.old) (left self.new) buf.new) }
         ensures kept { OnErr result (IsTrue (tells self.old) → left self.new ≡ left self.old) }
         ensures cause { OnErr result (Rose (faults self.old) (faults self.new)) };
 }

@@ -7,7 +7,7 @@ use Rattle.den_disk.proofs.Places.{change-here}
 use Rattle.den_disk.proofs.Images.{length-fit}
 use Rattle.den_model.specs.Spelling.{u64_word}
 use Rattle.den_model.specs.Regions.{open_region, open_regions}
-use Rattle.den_gate.specs.Slot.{Grows, Holds, IsFilled, IsShort, StopsAt, begin_of, room_for, whole_chunks}
+use Rattle.den_gate.specs.Slot.{SlotGrows, Holds, IsFilled, IsShort, StopsAt, begin_of, room_for, whole_chunks}
 use Rattle.den_gate.proofs.Written.{staged_written, regions-push, length-word}
 use Rattle.den_gate.proofs.Calm.{opened, fitted}
 
@@ -53,7 +53,7 @@ pub holds_resized : (slot : Place) (ps : List (List ℕ)) (end : ℕ) (c : Conte
 holds_resized slot ps end c len fits h = subst (λ (l : List ℕ). Holds ps end l) (sym (change-here slot (fit len) c.reading)) (fitted slot c ps end len (c.reading slot) fits h)
 
 -- room, and then writes inside it
-pub grows_on : (old mid new : List ℕ) (end size : ℕ) → Grows old mid end size → length new ≡ length mid → Grows old new end size
+pub grows_on : (old mid new : List ℕ) (end size : ℕ) → SlotGrows old mid end size → length new ≡ length mid → SlotGrows old new end size
 grows_on old mid new end size g same = record { grown = λ short. same ∙ g.grown short; kept = λ long. same ∙ g.kept long }
 
 -- ---- a whole list
@@ -95,7 +95,7 @@ pub record FilledWithin (end limit : ℕ) (file : List ℕ) : Type 0 where
   pub filled : IsFilled end file
   pub fits : length file ≤ limit
 
-pub filled_more : (end n : ℕ) (was now : List ℕ) (limit : ℕ) → FilledWithin end limit was → end + (9 + n) ≤ 2 ^ 62 → Grows was now end n → (IsShort was end n → room_for end n ≤ limit)
+pub filled_more : (end n : ℕ) (was now : List ℕ) (limit : ℕ) → FilledWithin end limit was → end + (9 + n) ≤ 2 ^ 62 → SlotGrows was now end n → (IsShort was end n → room_for end n ≤ limit)
     → FilledWithin (end + (9 + n)) limit now
 filled_more end n was now limit f low g not_full = ⊎_elim grown kept (order (length was) (end + 10 + n))
   where

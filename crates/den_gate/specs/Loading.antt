@@ -8,10 +8,10 @@ use Rattle.den_gate.specs.declared.look.Found.TheVariants.{Closed, Region, CutSh
 use Rattle.den_gate.specs.Slot.{IsRegion, IsCutShort}
 
 -- the next offset is further on, and no further than the end
-abbrev pub GoesOn : ℕ → ℕ → Found → Type 0
-GoesOn at len Closed = Unit {0}
-GoesOn at len (Region next) = (at + 9 ≤ next) × (next ≤ len)
-GoesOn at len CutShort = Unit {0}
+abbrev pub IsFurther : ℕ → ℕ → Found → Type 0
+IsFurther at len Closed = Unit {0}
+IsFurther at len (Region next) = (at + 9 ≤ next) × (next ≤ len)
+IsFurther at len CutShort = Unit {0}
 
 -- the payload of a region
 abbrev pub payload_at : ℕ → ℕ → List ℕ → List ℕ

@@ -59,7 +59,7 @@ abbrev pub IsShort : List ℕ → ℕ → ℕ → Type 0
 IsShort file end size = length file < end + 10 + size
 
 -- a file that was short of this room is as long as it now, and one that was not is as long as before
-pub record Grows (old new : List ℕ) (end size : ℕ) : Type 0 where
+pub record SlotGrows (old new : List ℕ) (end size : ℕ) : Type 0 where
   pub grown : IsShort old end size → length new ≡ room_for end size
   pub kept : end + 10 + size ≤ length old → length new ≡ length old
 

@@ -4,7 +4,7 @@ ghost use Rattle.std.specs.Prelude.{◌≡◌, ◌+◌, ◌≤◌, ◌<◌, ◌^
 ghost use Rattle.den_disk.specs.Crash.{Stays};
 ghost use Rattle.den_disk.specs.Goes.{HasCause, Rose};
 ghost use Rattle.den_gate.specs.Causes.{Because};
-ghost use Rattle.den_gate.specs.Slot.{Grows, IsShort, payloads_of, room_for};
+ghost use Rattle.den_gate.specs.Slot.{SlotGrows, IsShort, payloads_of, room_for};
 ghost use Rattle.den_gate.specs.Steps.{IsOpen, IsStaged, RunKeeps, RunKeepsOrAdds};
 
 use crate::GateError;
@@ -20,7 +20,7 @@ pub fn add<D: Disk>(disk: &mut D, slot: Place, end: u64, payload: &[u8]) -> Resu
     ensures end { OnOk result (end + (9 + length payload.now) ≤ 2 ^ 62) }
     ensures open { IsTrue (D.kind disk.old).tells → (list : List (List ℕ)) → IsOpen slot list end (D.content disk.old) → OnOk result (
         IsOpen slot (list ++ payload.now ∷ []) (end + (9 + length payload.now)) (D.content disk.new)) }
-    ensures grows { IsTrue (D.kind disk.old).tells → OnOk result (Grows ((D.content disk.old).reading slot) ((D.content disk.new).reading slot) end (length payload.now)) }
+    ensures grows { IsTrue (D.kind disk.old).tells → OnOk result (SlotGrows ((D.content disk.old).reading slot) ((D.content disk.new).reading slot) end (length payload.now)) }
     ensures run { IsTrue (D.kind disk.old).tells → (list : List (List ℕ)) → IsOpen slot list end (D.content disk.old)
         → RunKeepsOrAdds D.content D.moment D.images slot list payload.now disk.old disk.new }
     ensures refused { IfErr result (Because ⊥ (Rose (D.faults disk.old) (D.faults disk.new)) (λ needed limit.

@@ -5,7 +5,7 @@ ghost use Rattle.den_disk.specs.Goes.{HasCause, Rose};
 ghost use Rattle.den_model.specs.Regions.{open_regions};
 ghost use Rattle.den_gate.specs.Causes.{Because};
 ghost use Rattle.den_gate.specs.Draft.{PassesLimit};
-ghost use Rattle.den_gate.specs.Slot.{Grows, Holds, IsFilled, IsShort, room_for, whole_chunks};
+ghost use Rattle.den_gate.specs.Slot.{SlotGrows, Holds, IsFilled, IsShort, room_for, whole_chunks};
 ghost use Rattle.den_gate.specs.Steps.{RunSpares};
 
 use crate::GateError;
@@ -34,7 +34,7 @@ pub fn push<D: Disk>(disk: &mut D, slot: Place, end: u64, payload: &[u8]) -> Res
     ensures end { OnOk result (end + (9 + length payload.now) ≤ 2 ^ 62) }
     ensures holds { IsTrue (D.kind disk.old).tells → (list : List (List ℕ)) → Holds list end ((D.content disk.old).reading slot) → OnOk result (
         Holds (list ++ payload.now ∷ []) (end + (9 + length payload.now)) ((D.content disk.new).reading slot)) }
-    ensures grows { IsTrue (D.kind disk.old).tells → OnOk result (Grows ((D.content disk.old).reading slot) ((D.content disk.new).reading slot) end (length payload.now)) }
+    ensures grows { IsTrue (D.kind disk.old).tells → OnOk result (SlotGrows ((D.content disk.old).reading slot) ((D.content disk.new).reading slot) end (length payload.now)) }
     ensures run { IsTrue (D.kind disk.old).tells → RunSpares D.content D.moment D.images slot disk.old disk.new }
     ensures refused { IfErr result (Because ⊥ (Rose (D.faults disk.old) (D.faults disk.new)) (λ needed limit.
         (needed ≡ room_for end (length payload.now)) × (limit ≡ (D.kind disk.old).limit) × (limit < needed) × (2 ^ 43 ≤ limit)

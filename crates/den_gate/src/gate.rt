@@ -34,7 +34,7 @@ impl GateFile {
     ghost use Rattle.den_model.specs.Regions.{regions, open_regions};
     ghost use Rattle.den_model.specs.Image.{slot_of};
     ghost use Rattle.den_gate.specs.Causes.{Because};
-    ghost use Rattle.den_gate.specs.Slot.{Grows, IsFilled, IsShort, room_for, whole_chunks};
+    ghost use Rattle.den_gate.specs.Slot.{SlotGrows, IsFilled, IsShort, room_for, whole_chunks};
     ghost use Rattle.den_gate.specs.Steps.{Keeps, KeepsOrAdds, Spares};
     ghost use Rattle.den_gate.specs.Gate.{payloads, IsAtRest, IsCurrent, KeepsFamily, KeepsOrAddsFamily};
     ghost use Rattle.den_gate.specs.Loading.{IsDurable};
@@ -106,7 +106,7 @@ impl GateFile {
         ensures at_rest { IsTrue (D.kind disk.old).tells → OnOk result (IsAtRest self.new (D.content disk.new)) }
         ensures same { IsTrue (D.kind disk.old).tells → OnOk result (payloads self.new (D.content disk.new).reading ≡ payloads self.old (D.content disk.old).reading) }
         ensures room { IsTrue (D.kind disk.old).tells → OnOk result (IsShort ((D.content disk.new).reading self.old.slot) self.old.end bytes → ⊥) }
-        ensures grows { IsTrue (D.kind disk.old).tells → OnOk result (Grows ((D.content disk.old).reading self.old.slot) ((D.content disk.new).reading self.old.slot) self.old.end bytes) }
+        ensures grows { IsTrue (D.kind disk.old).tells → OnOk result (SlotGrows ((D.content disk.old).reading self.old.slot) ((D.content disk.new).reading self.old.slot) self.old.end bytes) }
 
         // At each moment of the call, whatever comes of it, a crash leaves the list and nothing new in the other files.
         ensures any_moment { IsTrue (D.kind disk.old).tells → Leaves D.content D.moment D.images
@@ -148,7 +148,7 @@ impl GateFile {
         ensures appended { IsTrue (D.kind disk.old).tells → OnOk result (
             payloads self.new (D.content disk.new).reading ≡ payloads self.old (D.content disk.old).reading ++ payload.now ∷ []) }
         ensures grows { IsTrue (D.kind disk.old).tells → OnOk result (
-            Grows ((D.content disk.old).reading self.old.slot) ((D.content disk.new).reading self.old.slot) self.old.end (length payload.now)) }
+            SlotGrows ((D.content disk.old).reading self.old.slot) ((D.content disk.new).reading self.old.slot) self.old.end (length payload.now)) }
 
         // At each moment of the call, whatever comes of it, a crash leaves the list from before it, with the payload or
         // without, and nothing new in the other files.
@@ -231,7 +231,7 @@ impl GateFile {
         ensures keeps { KeepsList D.Disk self.old self.new disk.old disk.new }
         ensures pushed { IsTrue (D.kind disk.old).tells → (list : List (List ℕ)) → IsDraft self.old list (D.content disk.old)
             → OnOk result (IsDraft self.new (list ++ payload.now ∷ []) (D.content disk.new)) }
-        ensures grows { IsTrue (D.kind disk.old).tells → OnOk result (Grows ((D.content disk.old).reading (other_slot self.old.slot))
+        ensures grows { IsTrue (D.kind disk.old).tells → OnOk result (SlotGrows ((D.content disk.old).reading (other_slot self.old.slot))
             ((D.content disk.new).reading (other_slot self.old.slot)) (draft_end self.old) (length payload.now)) }
         ensures draft { OnOk result (self.new.draft ≡ Some (draft_end self.old + (9 + length payload.now))) }
         ensures refused { IfErr result (Because ⊥ (Rose (D.faults disk.old) (D.faults disk.new)) (λ needed limit.

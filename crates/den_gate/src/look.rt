@@ -3,7 +3,7 @@ ghost use Rattle.std.specs.Prelude.{◌≡◌, ◌+◌, ◌-◌, ◌≤◌, ◌<
 ghost use Rattle.den_disk.specs.Crash.{Stays};
 ghost use Rattle.den_disk.specs.Goes.{HasCause};
 ghost use Rattle.den_model.specs.Spelling.{u64_word};
-ghost use Rattle.den_gate.specs.Loading.{GoesOn, Finds};
+ghost use Rattle.den_gate.specs.Loading.{IsFurther, Finds};
 ghost use Rattle.den_gate.specs.Window.{Shows};
 
 use crate::window::Window;
@@ -30,7 +30,7 @@ pub fn look<D: Disk>(
     requires fits { window.old.filled ≤ 65536 }
     requires shows { IsTrue (D.kind disk.old).tells → Shows window.old ((D.content disk.old).reading slot) }
     ensures kind { D.kind disk.new ≡ D.kind disk.old }
-    ensures goes_on { IfOk result (λ found. GoesOn at len found) }
+    ensures goes_on { IfOk result (λ found. IsFurther at len found) }
     ensures found { IsTrue (D.kind disk.old).tells → IfOk result (λ found. Finds at ((D.content disk.old).reading slot) found) }
     ensures fits { window.new.filled ≤ 65536 }
     ensures shows { IsTrue (D.kind disk.old).tells → Shows window.new ((D.content disk.old).reading slot) }
@@ -46,7 +46,7 @@ fn found_in(header: &[u8], at: u64, len: u64) -> Found
     requires at { at < len }
     requires most { len ≤ 2 ^ 62 }
     requires long { min 9 (len - at) ≤ length header.now }
-    ensures goes_on { GoesOn at len result }
+    ensures goes_on { IsFurther at len result }
     ensures found { (file : List ℕ) → length file ≡ len → header.now ≡ take (length header.now) (drop at file) → Finds at file result }
 {
     if header[0] != 1 {

@@ -3,7 +3,7 @@ ghost use Rattle.std.specs.Prelude.{◌≡◌, ◌+◌, ◌-◌, ◌≤◌, ◌<
 ghost use Rattle.den_disk.specs.Crash.{Stays};
 ghost use Rattle.den_disk.specs.Goes.{Rose};
 ghost use Rattle.den_gate.specs.Causes.{Because};
-ghost use Rattle.den_gate.specs.Slot.{Grows, Holds, IsShort, room_for, whole_chunks};
+ghost use Rattle.den_gate.specs.Slot.{SlotGrows, Holds, IsShort, room_for, whole_chunks};
 ghost use Rattle.den_gate.specs.Steps.{IsOpen, RunKeeps, RunSpares};
 
 use crate::GateError;
@@ -20,7 +20,7 @@ pub fn make_room<D: Disk>(disk: &mut D, slot: Place, end: u64, size: u64) -> Res
     ensures open { IsTrue (D.kind disk.old).tells → (list : List (List ℕ)) → IsOpen slot list end (D.content disk.old) → OnOk result (
         IsOpen slot list end (D.content disk.new)) }
     ensures room { IsTrue (D.kind disk.old).tells → OnOk result (end + 10 + size ≤ length ((D.content disk.new).reading slot)) }
-    ensures grows { IsTrue (D.kind disk.old).tells → OnOk result (Grows ((D.content disk.old).reading slot) ((D.content disk.new).reading slot) end size) }
+    ensures grows { IsTrue (D.kind disk.old).tells → OnOk result (SlotGrows ((D.content disk.old).reading slot) ((D.content disk.new).reading slot) end size) }
     ensures run { IsTrue (D.kind disk.old).tells → (list : List (List ℕ)) → IsOpen slot list end (D.content disk.old)
         → RunKeeps D.content D.moment D.images slot list disk.old disk.new }
     ensures holds { IsTrue (D.kind disk.old).tells → (list : List (List ℕ)) → Holds list end ((D.content disk.old).reading slot) → OnOk result (

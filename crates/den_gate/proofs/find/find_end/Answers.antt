@@ -3,7 +3,7 @@ use Rattle.std.proofs.lemmas.List.{get_or_past}
 use Rattle.den_disk.proofs.Moments.{stays_then}
 use Rattle.den_gate.specs.Slot.{IsRegion, IsCutShort}
 use Rattle.den_gate.specs.Window.{Shows}
-use Rattle.den_gate.specs.Loading.{Finds, GoesOn, payload_at}
+use Rattle.den_gate.specs.Loading.{Finds, IsFurther, payload_at}
 use Rattle.den_gate.proofs.Written.{begins_closed, begins_more, begins_short}
 use Rattle.den_gate.proofs.find.find_end.Goals as goal
 
@@ -36,7 +36,7 @@ returns-clause-holds g c = λ tells.
 
 pub loop-at-preserved : goal.loop-at-preserved
 loop-at-preserved g c =
-    let next = subst (λ f. GoesOn c.loop-at.at c.in_ok-len.len f) c.in-Region.is c.in_ok-look.ensures.goes_on in
+    let next = subst (λ f. IsFurther c.loop-at.at c.in_ok-len.len f) c.in-Region.is c.in_ok-look.ensures.goes_on in
     record {
       within = next.1;
       kind = c.look.ensures.kind ∙ c.loop-at.invariant.kind;

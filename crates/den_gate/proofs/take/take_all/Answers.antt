@@ -3,7 +3,7 @@ use Rattle.std.proofs.lemmas.List.{get_or_past}
 use Rattle.den_disk.proofs.Moments.{stays_then}
 use Rattle.den_gate.specs.Slot.{IsRegion, IsCutShort}
 use Rattle.den_gate.specs.Window.{Shows}
-use Rattle.den_gate.specs.Loading.{Finds, GoesOn, payload_at}
+use Rattle.den_gate.specs.Loading.{Finds, IsFurther, payload_at}
 use Rattle.den_gate.proofs.Written.{begins_holds, holds_payloads, begins_pushed, begins_short}
 use Rattle.den_gate.proofs.take.take_all.Goals as goal
 
@@ -38,7 +38,7 @@ returns-in-CutShort-clause-refused g c = λ tells.
 
 pub loop-at-preserved : goal.loop-at-preserved
 loop-at-preserved g c =
-    let on = subst (λ f. GoesOn c.loop-at.at c.in_ok-len.len f) c.in-Region.is c.in_ok-look.ensures.goes_on in
+    let on = subst (λ f. IsFurther c.loop-at.at c.in_ok-len.len f) c.in-Region.is c.in_ok-look.ensures.goes_on in
     record {
       within = on.1;
       kind = c.take_payload.ensures.kind ∙ c.look.ensures.kind ∙ c.loop-at.invariant.kind;

@@ -1,6 +1,6 @@
 use Rattle.std.proofs.Common.{◌+◌, [], ◌∷◌, ◌++◌, ℕ, length, refl, sym, subst, rules}
 use Rattle.den_disk.specs.declared.place.Place.{Place}
-use Rattle.den_gate.specs.Slot.{Grows, Holds}
+use Rattle.den_gate.specs.Slot.{SlotGrows, Holds}
 use Rattle.den_gate.specs.Draft.{draft_end, other_slot}
 use Rattle.den_gate.proofs.Drafts.{writes_own, keeps_list, slot_others}
 use Rattle.den_gate.proofs.gate.GateFile.draft_push.Goals as goal
@@ -43,5 +43,5 @@ pub returns-clause-grows : goal.returns-clause-grows
 returns-clause-grows g c = λ tells.
     let content = g.D.Disk.content in
     let n = length c.args.payload.now in
-    let grows_at = λ (p : Place) (e : ℕ). Grows ((content c.args.disk.now).reading p) ((content c.push.new.disk).reading p) e n in
+    let grows_at = λ (p : Place) (e : ℕ). SlotGrows ((content c.args.disk.now).reading p) ((content c.push.new.disk).reading p) e n in
     subst (λ (p : Place). grows_at p (draft_end c.args.self.now)) c.other_of.ensures (subst (λ (e : ℕ). grows_at c.other_of.result e) c.unwrap_or-end.ensures (c.in_ok-push.ensures.grows tells))

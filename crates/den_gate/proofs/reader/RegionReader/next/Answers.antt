@@ -2,7 +2,7 @@ use Rattle.std.proofs.Common.{◌≡◌, ◌≢◌, refl, arith, ℕ, List, IsTr
 use Rattle.std.proofs.lemmas.List.{get_or_past}
 use Rattle.den_disk.specs.Files.{Content}
 use Rattle.den_gate.specs.Slot.{payloads_of, IsRegion}
-use Rattle.den_gate.specs.Loading.{Finds, GoesOn, payload_at}
+use Rattle.den_gate.specs.Loading.{Finds, IsFurther, payload_at}
 use Rattle.den_gate.proofs.Written.{begins_short}
 use Rattle.den_gate.proofs.NextRegion.{next_found, none_found, stands_behind}
 use Rattle.den_gate.proofs.reader.RegionReader.next.Goals as goal
@@ -29,7 +29,7 @@ returns-in_ok-take_bytes-in-Region-clause-found g c = λ tells.
     let next = c.in-Region.next in
     let file = (g.D.Disk.content c.args.disk.now).reading old.slot in
     let s = c.requires.stands tells in
-    let on = subst (λ f. GoesOn old.at old.len f) c.in-Region.is c.in_ok-look.ensures.goes_on in
+    let on = subst (λ f. IsFurther old.at old.len f) c.in-Region.is c.in_ok-look.ensures.goes_on in
     let tells1 = subst (λ k. IsTrue k.tells) (sym c.look.ensures.kind) tells in
     let same : (g.D.Disk.content c.look.new.disk).reading old.slot ≡ file = ap (λ (k : Content). k.reading old.slot) (c.look.ensures.stays tells).content_same in
     let region = subst (λ f. Finds old.at file f) c.in-Region.is (c.in_ok-look.ensures.found tells) in
