@@ -80,7 +80,7 @@ WasFull disk gate old new size needed limit =
     (needed ≡ room_for (draft_end gate) size) × (limit ≡ (disk.kind old).limit) × (limit < needed) × (2 ^ 43 ≤ limit)
     × (DiskTells disk old → IsShort ((disk.content old).reading (other_slot gate.slot)) (draft_end gate) size × Stays disk.content disk.moment disk.images old new)
 
-module _ {F R D : Type 0} (fold : Ghosts F R) (disk : DiskGhosts D) (law : Law disk) (was now : Journal F) (old new : D) (words : List (List ℕ)) (drafting : IsDrafting fold disk was words old) (held : now.held ≡ was.held) where
+module _ {F R D : Type 0} (fold : Ghosts F R) (disk : DiskGhosts D) (law : Law disk) (stands : fold.Value) (was now : Journal F) (old new : D) (words : List (List ℕ)) (drafting : IsDrafting fold disk stands was words old) (held : now.held ≡ was.held) where
   why : (word : List ℕ) (e : GateError) → Because ⊥ (Faulted disk old new) (WasFull disk was.gate old new (length word)) (λ part offset. ⊥) e
       → IsRefusal (Faulted disk old new) (disk.kind old).limit (refusal fold.FAMILY e)
       × IsFullOf (DiskTells disk old) fold.FAMILY (disk.content new).reading (length (open_regions words)) (length word) (refusal fold.FAMILY e)
@@ -103,13 +103,13 @@ module _ {F R D : Type 0} (fold : Ghosts F R) (disk : DiskGhosts D) (law : Law d
   why word (gate.DataCorruption part offset) h = absurd h
 
   pub push_refused : {T E : Type 0} (result : Result T E) (word : List ℕ) (e : GateError) → now.gate.failed ≡ true → WritesOwn disk was.gate now.gate old new result → KeepsList disk was.gate now.gate old new
-      → Because ⊥ (Faulted disk old new) (WasFull disk was.gate old new (length word)) (λ part offset. ⊥) e → Pushes fold disk was now old new {T = T} words word (Err (refusal fold.FAMILY e))
+      → Because ⊥ (Faulted disk old new) (WasFull disk was.gate old new (length word)) (λ part offset. ⊥) e → Pushes fold disk was now old new {T = T} stands words word (Err (refusal fold.FAMILY e))
   push_refused result word e failed writes keeps h =
       let w = why word e h in
       record {
         drafts = record {
           goes_on = writes.goes_on;
-          moves = λ tells. moves_beside disk fold.FAMILY (fold.from fold.empty) was.gate now.gate (fold.value was.held) old new tells (drafting.gives tells) result writes keeps;
+          moves = λ tells. moves_beside disk fold.FAMILY (fold.from fold.empty) was.gate now.gate stands old new tells (drafting.gives tells) result writes keeps;
           cause = w.0;
           failed = λ ready. absurd (cc (failed, ready.1));
           same_value = ap fold.value held;
@@ -122,13 +122,13 @@ module _ {F R D : Type 0} (fold : Ghosts F R) (disk : DiskGhosts D) (law : Law d
   pub push_made : {T E : Type 0} (result : Result T E) (x : T) (word : List ℕ) → now.gate.failed ≡ false → now.failed ≡ was.failed → now.gate.draft ≡ Some (draft_end was.gate + (9 + length word))
       → WritesOwn disk was.gate now.gate old new result → KeepsList disk was.gate now.gate old new
       → (DiskTells disk old → (list : List (List ℕ)) → IsDraft was.gate list (disk.content old) → IsDraft now.gate (list ++ word ∷ []) (disk.content new))
-      → Pushes fold disk was now old new words word (Ok x)
+      → Pushes fold disk was now old new stands words word (Ok x)
   push_made result x word going same is writes keeps pushed =
       let on : DiskTells disk new → DiskTells disk old = λ tells. subst (λ (k : Kind). IsTrue k.tells) writes.goes_on.same tells in
       record {
         drafts = record {
           goes_on = writes.goes_on;
-          moves = λ tells. moves_beside disk fold.FAMILY (fold.from fold.empty) was.gate now.gate (fold.value was.held) old new tells (drafting.gives tells) result writes keeps;
+          moves = λ tells. moves_beside disk fold.FAMILY (fold.from fold.empty) was.gate now.gate stands old new tells (drafting.gives tells) result writes keeps;
           cause = tt;
           failed = tt;
           same_value = tt;
@@ -138,8 +138,7 @@ module _ {F R D : Type 0} (fold : Ghosts F R) (disk : DiskGhosts D) (law : Law d
           end = omega (arith, ap (λ (o : Option ℕ). unwrap_or o 0) is, drafting.end, pushed_size words word);
           going = going;
           unready = same ∙ drafting.unready;
-          gives = λ tells. subst (λ h. RestsAs fold.FAMILY (fold.from fold.empty) now.gate (fold.value h) (disk.content new)) (sym held)
-              (gives_beside disk fold.FAMILY (fold.from fold.empty) was.gate now.gate (fold.value was.held) old new (on tells) (drafting.gives (on tells)) keeps);
+          gives = λ tells. gives_beside disk fold.FAMILY (fold.from fold.empty) was.gate now.gate stands old new (on tells) (drafting.gives (on tells)) keeps;
           draft = λ tells. pushed (on tells) words (drafting.draft (on tells));
         };
         full = tt;
@@ -147,14 +146,14 @@ module _ {F R D : Type 0} (fold : Ghosts F R) (disk : DiskGhosts D) (law : Law d
       }
 
 -- memory was wanting for a word
-pub push_wanting : {F R D T : Type 0} (fold : Ghosts F R) (disk : DiskGhosts D) (law : Law disk) (was now : Journal F) (d : D) (words : List (List ℕ)) (word : List ℕ) → IsDrafting fold disk was words d → now.held ≡ was.held
-    → now.failed ≡ was.failed → (result : Result T Error) → IsErrAnd result (λ e. e ≡ OutOfMemory) → Pushes fold disk was now d d words word result
-push_wanting fold disk law was now d words word drafting held same (Ok x) is = absurd is
-push_wanting fold disk law was now d words word drafting held same (Err e) is = record {
+pub push_wanting : {F R D T : Type 0} (fold : Ghosts F R) (disk : DiskGhosts D) (law : Law disk) (stands : fold.Value) (was now : Journal F) (d : D) (words : List (List ℕ)) (word : List ℕ) → IsDrafting fold disk stands was words d
+    → now.held ≡ was.held → now.failed ≡ was.failed → (result : Result T Error) → IsErrAnd result (λ e. e ≡ OutOfMemory) → Pushes fold disk was now d d stands words word result
+push_wanting fold disk law stands was now d words word drafting held same (Ok x) is = absurd is
+push_wanting fold disk law stands was now d words word drafting held same (Err e) is = record {
   drafts = record {
     goes_on = goes_nowhere disk d;
-    moves = λ tells. moves_nothing disk fold.FAMILY (held_in fold.FAMILY (fold.from fold.empty)) (fold.value was.held) [] d
-        (λ told files i. gives_hold fold.FAMILY (fold.from fold.empty) was.gate (fold.value was.held) (disk.content d) files (drafting.gives tells) ((law d files tells).0 i));
+    moves = λ tells. moves_nothing disk fold.FAMILY (held_in fold.FAMILY (fold.from fold.empty)) stands [] d
+        (λ told files i. gives_hold fold.FAMILY (fold.from fold.empty) was.gate stands (disk.content d) files (drafting.gives tells) ((law d files tells).0 i));
     cause = subst (IsRefusal (Faulted disk d d) (disk.kind d).limit) (sym is) tt;
     failed = λ ready. absurd (cc (same ∙ drafting.unready, ready.0));
     same_value = ap fold.value held;
@@ -166,20 +165,20 @@ push_wanting fold disk law was now d words word drafting held same (Err e) is = 
 
 -- ---- a commit
 
-module _ {F R D : Type 0} (fold : Ghosts F R) (disk : DiskGhosts D) (was now : Journal F) (old new : D) (words : List (List ℕ)) (drafting : IsDrafting fold disk was words old)
+module _ {F R D : Type 0} (fold : Ghosts F R) (disk : DiskGhosts D) (stands : fold.Value) (was now : Journal F) (old new : D) (words : List (List ℕ)) (drafting : IsDrafting fold disk stands was words old)
     (is : fold.from fold.empty (placed 0 words) ≡ Ok (fold.renewed (fold.value was.held)))
     {S E : Type 0} (result : Result S E) (writes : WritesOwn disk was.gate now.gate old new result)
     (rewrites : DiskTells disk old → (list : List (List ℕ)) → IsDraft was.gate list (disk.content old) → IsAtRest was.gate (disk.content old) → IsCurrent was.gate.slot (disk.content old)
     → Rewrites disk was.gate now.gate old new list) where
-  moves : DiskTells disk old → Moves disk fold.FAMILY (held_in fold.FAMILY (fold.from fold.empty)) (fold.value was.held ∷ fold.renewed (fold.value was.held) ∷ []) old new
+  moves : DiskTells disk old → Moves disk fold.FAMILY (held_in fold.FAMILY (fold.from fold.empty)) (stands ∷ fold.renewed (fold.value was.held) ∷ []) old new
   moves tells = let g = drafting.gives tells in
-      moves_over disk fold.FAMILY (fold.from fold.empty) was.gate now.gate (fold.value was.held) old new tells g result words (fold.renewed (fold.value was.held)) writes is
+      moves_over disk fold.FAMILY (fold.from fold.empty) was.gate now.gate stands old new tells g result words (fold.renewed (fold.value was.held)) writes is
       (rewrites tells words (drafting.draft tells) g.at_rest g.current)
 
   pub commit_made : {T : Type 0} (x : T) → ((v : fold.Value) → fold.size (fold.renewed v) ≡ fold.size v) → fold.value now.held ≡ fold.renewed (fold.value was.held) → now.failed ≡ false → now.gate.failed ≡ false
       → Rewritten disk was.gate now.gate old new (draft_end was.gate)
       → (DiskTells disk old → (list : List (List ℕ)) → IsDraft was.gate list (disk.content old) → IsCurrent was.gate.slot (disk.content old) → RestsWith now.gate list (disk.content new))
-      → Commits fold disk was now old new words (Ok x)
+      → Commits fold disk was now old new stands words (Ok x)
   commit_made x anew value ready going rewritten rests =
       let at_rest : (tells : DiskTells disk old) → RestsWith now.gate words (disk.content new) = λ tells. rests tells words (drafting.draft tells) (drafting.gives tells).current in
       record {
@@ -197,7 +196,7 @@ module _ {F R D : Type 0} (fold : Ghosts F R) (disk : DiskGhosts D) (was now : J
       }
 
   pub commit_refused : {T : Type 0} (e : GateError) → fold.value now.held ≡ fold.value was.held → now.gate.failed ≡ true → Because ⊥ (Faulted disk old new) (λ needed limit. ⊥) (λ part offset. ⊥) e
-      → Commits fold disk was now old new {T = T} words (Err (refusal fold.FAMILY e))
+      → Commits fold disk was now old new {T = T} stands words (Err (refusal fold.FAMILY e))
   commit_refused e value failed h =
       let s = sync_refused (Faulted disk old new) fold.FAMILY e h in
       record {
@@ -213,6 +212,18 @@ module _ {F R D : Type 0} (fold : Ghosts F R) (disk : DiskGhosts D) (was now : J
 
 -- ---- for the callers
 
+-- a draft stays one where its journal takes on another value
+pub drafting_turned : {F R D : Type 0} (fold : Ghosts F R) (disk : DiskGhosts D) (stands : fold.Value) (was now : Journal F) (words : List (List ℕ)) (at : D) → IsDrafting fold disk stands was words at → now.gate ≡ was.gate
+    → now.failed ≡ true → IsDrafting fold disk stands now words at
+drafting_turned fold disk stands was now words at drafting same unready = record {
+  begun = subst (λ (g : GateFile). IsSome g.draft) (sym same) drafting.begun;
+  end = ap draft_end same ∙ drafting.end;
+  going = ap (λ (g : GateFile). g.failed) same ∙ drafting.going;
+  unready = unready;
+  gives = λ tells. subst (λ (g : GateFile). RestsAs fold.FAMILY (fold.from fold.empty) g stands (disk.content at)) (sym same) (drafting.gives tells);
+  draft = λ tells. subst (λ (g : GateFile). IsDraft g words (disk.content at)) (sym same) (drafting.draft tells);
+}
+
 -- calls on a draft one behind the other
 pub later_cause : (rose more : Type 0) (most same : ℕ) (e : Error) → (rose → more) → same ≡ most → IsRefusal rose same e → IsRefusal more most e
 later_cause rose more most same error.StorageIoError rises is h = rises h
@@ -226,11 +237,10 @@ later_cause rose more most same (error.UnorderedChunk index) rises is h = h
 later_cause rose more most same (error.Config place) rises is h = h
 later_cause rose more most same error.StateMachineError rises is h = h
 
-pub drafts_then : {F R D S T : Type 0} (fold : Ghosts F R) (disk : DiskGhosts D) (was between now : Journal F) (old mid new : D) (more : List fold.Value) (x : S) (result : Result T Error)
-    → fold.value between.held ≡ fold.value was.held → Drafts fold disk was between old mid (fold.value was.held ∷ []) (Ok x) → Drafts fold disk between now mid new (fold.value between.held ∷ more) result
-    → Drafts fold disk was now old new (fold.value was.held ∷ more) result
-drafts_then fold disk was between now old mid new more x result same one two =
-    let v = fold.value was.held in
+pub drafts_then : {F R D S T : Type 0} (fold : Ghosts F R) (disk : DiskGhosts D) (stands : fold.Value) (was between now : Journal F) (old mid new : D) (more : List fold.Value) (x : S) (result : Result T Error)
+    → fold.value between.held ≡ fold.value was.held → Drafts fold disk was between old mid (stands ∷ []) (Ok x) → Drafts fold disk between now mid new (stands ∷ more) result
+    → Drafts fold disk was now old new (stands ∷ more) result
+drafts_then fold disk stands was between now old mid new more x result same one two =
     let on : DiskTells disk old → DiskTells disk mid = λ tells. subst (λ (k : Kind). IsTrue k.tells) (sym one.goes_on.same) tells in
     record {
       goes_on = record {
@@ -245,13 +255,12 @@ drafts_then fold disk was between now old mid new more x result same one two =
               keeps = λ t files le i. then.keeps t files (omega (arith, le, first.later)) (first.keeps t files le i);
             };
       };
-      moves = λ tells. moves_joined one.goes_on two.goes_on tells (v ∷ []) (v ∷ more) (v ∷ more) (λ found h. first_of v more found h) (λ found h. h) (one.moves tells)
-          (subst (λ u. Moves disk fold.FAMILY (held_in fold.FAMILY (fold.from fold.empty)) (u ∷ more) mid new) same (two.moves (on tells)));
+      moves = λ tells. moves_joined one.goes_on two.goes_on tells (stands ∷ []) (stands ∷ more) (stands ∷ more) (λ found h. first_of stands more found h) (λ found h. h) (one.moves tells) (two.moves (on tells));
       cause = IfErr-weaker result (IsRefusal (Faulted disk mid new) (disk.kind mid).limit) (IsRefusal (Faulted disk old new) (disk.kind old).limit)
           (λ e h. later_cause (Faulted disk mid new) (Faulted disk old new) (disk.kind old).limit (disk.kind mid).limit e (later_rose (disk.faults old) (disk.faults mid) (disk.faults new) one.goes_on.counts)
           (ap (λ (k : Kind). k.limit) one.goes_on.same) h) two.cause;
       failed = two.failed;
-      same_value = IfErr-weaker result (λ e. fold.value now.held ≡ fold.value between.held) (λ e. fold.value now.held ≡ v) (λ e h. h ∙ same) two.same_value;
+      same_value = IfErr-weaker result (λ e. fold.value now.held ≡ fold.value between.held) (λ e. fold.value now.held ≡ fold.value was.held) (λ e h. h ∙ same) two.same_value;
     }
   where
     later_rose : (first second third : ℕ) → first ≤ second → Rose second third → Rose first third

@@ -33,7 +33,7 @@ more_heavy most weight more error.StateMachineError le h = tt
 more_short : (slot : Place) (sizes more : ℕ → Type 0) (needed : ℕ) (files : Files) → ((n : ℕ) → sizes n → more n) → IsTooShort slot sizes needed files → IsTooShort slot more needed files
 more_short slot sizes more needed files on s = record { size = s.size; meant = on s.size s.meant; room = s.room; short = s.short }
 
-more_full : (told more_told : Type 0) (family : Family) (files : Files) (most more : ℕ) (adds drafts more_adds more_drafts : ℕ → Type 0) (e : Error) → (more_told → told) → most ≤ more
+pub more_full : (told more_told : Type 0) (family : Family) (files : Files) (most more : ℕ) (adds drafts more_adds more_drafts : ℕ → Type 0) (e : Error) → (more_told → told) → most ≤ more
     → ((n : ℕ) → adds n → more_adds n) → ((n : ℕ) → drafts n → more_drafts n) → IsFullFor told family files most adds drafts e → IsFullFor more_told family files more more_adds more_drafts e
 more_full told more_told family files most more adds drafts more_adds more_drafts (error.DiskFull needed limit) tells le on_adds on_drafts f = (
   record { size = f.0.size; within = omega (arith, f.0.within); room = f.0.room },

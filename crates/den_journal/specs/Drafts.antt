@@ -49,15 +49,17 @@ IsFullOf told family files end size (UnorderedChunk index) = Unit {0}
 IsFullOf told family files end size (Config place) = Unit {0}
 IsFullOf told family files end size StateMachineError = Unit {0}
 
+-- `stands` is the value that the regions of the slot in use give. It is the journal's own, unless the journal took on
+-- another one, which the draft is to give.
 module _ {F R : Type 0} (fold : Ghosts F R) {D : Type 0} (disk : DiskGhosts D) where
   -- A journal between the beginning of a draft and its commit: these words are the draft, and the regions of the slot in use
-  -- give the value still. It is not ready.
-  pub record IsDrafting (j : Journal F) (words : List (List ℕ)) (at : D) : Type 0 where
+  -- give the value that stands. It is not ready.
+  pub record IsDrafting (stands : fold.Value) (j : Journal F) (words : List (List ℕ)) (at : D) : Type 0 where
     pub begun : IsSome j.gate.draft
     pub end : draft_end j.gate ≡ length (open_regions words)
     pub going : j.gate.failed ≡ false
     pub unready : j.failed ≡ true
-    pub gives : DiskTells disk at → RestsAs fold.FAMILY (fold.from fold.empty) j.gate (fold.value j.held) (disk.content at)
+    pub gives : DiskTells disk at → RestsAs fold.FAMILY (fold.from fold.empty) j.gate stands (disk.content at)
     pub draft : DiskTells disk at → IsDraft j.gate words (disk.content at)
 
   module _ (was now : Journal F) (old new : D) where
@@ -71,9 +73,9 @@ module _ {F R : Type 0} (fold : Ghosts F R) {D : Type 0} (disk : DiskGhosts D) w
       pub same_value : IfErr result (λ e. fold.value now.held ≡ fold.value was.held)
 
     -- A call that adds a word to a draft of these.
-    pub record Pushes {T : Type 0} (words : List (List ℕ)) (word : List ℕ) (result : Result T Error) : Type 0 where
-      pub drafts : Drafts (fold.value was.held ∷ []) result
-      pub pushed : OnOk result (IsDrafting now (words ++ word ∷ []) new)
+    pub record Pushes {T : Type 0} (stands : fold.Value) (words : List (List ℕ)) (word : List ℕ) (result : Result T Error) : Type 0 where
+      pub drafts : Drafts (stands ∷ []) result
+      pub pushed : OnOk result (IsDrafting stands now (words ++ word ∷ []) new)
       pub full : IfErr result (IsFullOf (DiskTells disk old) fold.FAMILY (disk.content new).reading (length (open_regions words)) (length word))
       pub heavy : IfErr result (IsHeavy (disk.kind old).limit (length (open_regions words) + length word))
 
@@ -86,8 +88,8 @@ module _ {F R : Type 0} (fold : Ghosts F R) {D : Type 0} (disk : DiskGhosts D) w
       pub list : DiskTells disk old → payloads now.gate (disk.content new).reading ≡ words
       pub slot : now.gate.slot ≡ other_slot was.gate.slot
 
-    -- A call that makes a draft of these words the family's list. A crash inside leaves the old value or what it is once its
-    -- regions are written anew.
-    pub record Commits {T : Type 0} (words : List (List ℕ)) (result : Result T Error) : Type 0 where
-      pub drafts : Drafts (fold.value was.held ∷ fold.renewed (fold.value was.held) ∷ []) result
+    -- A call that makes a draft of these words the family's list. A crash inside leaves the value that stands, or the
+    -- journal's as it is once its regions are written anew.
+    pub record Commits {T : Type 0} (stands : fold.Value) (words : List (List ℕ)) (result : Result T Error) : Type 0 where
+      pub drafts : Drafts (stands ∷ fold.renewed (fold.value was.held) ∷ []) result
       pub done : OnOk result (IsCommitted words)

@@ -1,5 +1,5 @@
 //! A journal.
-ghost use Rattle.std.specs.Prelude.{◌≡◌, ◌↔◌, ◌≤◌, ◌++◌, ◌∷◌, ℕ, List, [], IsSome, IsTrue, IfErr, IfOk, OnOk, Ok, false, length};
+ghost use Rattle.std.specs.Prelude.{◌≡◌, ◌↔◌, ◌≤◌, ◌++◌, ◌∷◌, ℕ, List, [], IsSome, IsTrue, IfErr, IfOk, OnOk, Ok, false, true, length};
 ghost use Rattle.den_model.specs.Regions.{open_regions, placed};
 ghost use Rattle.den_gate.specs.Gate.{payloads};
 ghost use Rattle.den_gate.specs.Draft.{other_slot};
@@ -23,7 +23,7 @@ use std::alloc::Global;
 pub struct Journal<F> {
     gate: GateFile,
     held: F,
-    // A draft is being made, or the value lacks what the files have.
+    // A draft is being made, it gave up, or the value lacks what the files have.
     failed: bool,
     alloc: Global,
     // The word of the last region: its memory is used again.
@@ -114,8 +114,10 @@ impl<F: Folded> Journal<F> {
     pub fn draft_begin<D: Disk>(&mut self, disk: &mut D) -> Result<(), Error>
         requires stands { StoreStands D.Disk (journal_shown F.Folded self.old) disk.old }
         ensures drafts { Drafts F.Folded D.Disk self.old self.new disk.old disk.new (F.value self.old.held ∷ []) result }
-        ensures begun { OnOk result (IsDrafting F.Folded D.Disk self.new [] disk.new) }
+        ensures begun { OnOk result (IsDrafting F.Folded D.Disk (F.value self.old.held) self.new [] disk.new) }
         ensures held { self.new.held ≡ self.old.held }
+        ensures slot { self.new.gate.slot ≡ self.old.gate.slot }
+        ensures end { self.new.gate.end ≡ self.old.gate.end }
         ensures weight { (journal_shown F.Folded self.new).weight ≡ (journal_shown F.Folded self.old).weight }
         ensures refused { IfErr result (λ e. e ≡ StorageIoError) }
     {
@@ -126,14 +128,25 @@ impl<F: Folded> Journal<F> {
         }
     }
 
+    /// Takes on another value, which the draft is to give. The regions in use give the old one until the draft is committed.
+    pub fn draft_turn_to(&mut self, held: F)
+        requires unready { self.old.failed ≡ true }
+        ensures held { self.new.held ≡ held }
+        ensures gate { self.new.gate ≡ self.old.gate }
+        ensures unready { self.new.failed ≡ true }
+    {
+        self.held = held;
+    }
+
     /// Adds a region to the draft. The value stays.
     pub fn draft_push<D: Disk>(&mut self, disk: &mut D, region: &F::Region) -> Result<(), Error>
         requires going { self.old.gate.failed ≡ false }
         requires begun { IsSome self.old.gate.draft }
-        ensures pushes { (words : List (List ℕ)) → IsDrafting F.Folded D.Disk self.old words disk.old
-            → Pushes F.Folded D.Disk self.old self.new disk.old disk.new words (F.Region.word region.now) result }
+        ensures pushes { (stands : F.Value) (words : List (List ℕ)) → IsDrafting F.Folded D.Disk stands self.old words disk.old
+            → Pushes F.Folded D.Disk self.old self.new disk.old disk.new stands words (F.Region.word region.now) result }
         ensures fits { OnOk result (F.Region.fits region.now) }
         ensures held { self.new.held ≡ self.old.held }
+        ensures slot { self.new.gate.slot ≡ self.old.gate.slot }
         ensures weight { (journal_shown F.Folded self.new).weight ≡ (journal_shown F.Folded self.old).weight }
     {
         self.word.clear();
@@ -148,9 +161,10 @@ impl<F: Folded> Journal<F> {
     pub fn draft_commit<D: Disk>(&mut self, disk: &mut D) -> Result<(), Error>
         requires going { self.old.gate.failed ≡ false }
         requires begun { IsSome self.old.gate.draft }
-        ensures commits { (words : List (List ℕ)) → IsDrafting F.Folded D.Disk self.old words disk.old
+        ensures commits { (stands : F.Value) (words : List (List ℕ)) → IsDrafting F.Folded D.Disk stands self.old words disk.old
             → F.from F.empty (placed 0 words) ≡ Ok (F.renewed (F.value self.old.held))
-            → Commits F.Folded D.Disk self.old self.new disk.old disk.new words result }
+            → Commits F.Folded D.Disk self.old self.new disk.old disk.new stands words result }
+        ensures held { IfErr result (λ e. self.new.held ≡ self.old.held) }
         ensures refused { IfErr result (λ e. e ≡ StorageIoError) }
     {
         match self.gate.draft_commit(disk) {
@@ -161,6 +175,15 @@ impl<F: Folded> Journal<F> {
             }
             Err(error) => Err(refusal(F::FAMILY, error)),
         }
+    }
+
+    /// Ends its use: it is opened anew then.
+    pub fn give_up(&mut self)
+        ensures held { self.new.held ≡ self.old.held }
+        ensures gate { self.new.gate ≡ self.old.gate }
+        ensures unready { self.new.failed ≡ true }
+    {
+        self.failed = true;
     }
 
     /// Puts all files on the disk. It takes no memory.
@@ -182,8 +205,8 @@ impl<F: Folded> Journal<F> {
         &self.held
     }
 
-    /// Whether it is of no use: while a draft is made, and for good once a call that writes was refused, but for want of
-    /// memory before its write. It is opened anew then.
+    /// Whether it is of no use: while a draft is made, and for good once it gave up or a call that writes was refused, but
+    /// for want of memory before its write. It is opened anew then.
     pub fn is_failed(&self) -> bool
         ensures { (result ≡ false) ↔ (journal_shown F.Folded self.now).ready }
     {

@@ -8,7 +8,11 @@
 //! Regions are written anew in the family's other slot, which is in use from then on: by `Journal::rewrite` in one call, where a
 //! region and another behind it give the changed value, or by `draft_begin`, a `draft_push` for each region and `draft_commit`,
 //! where the words are too many for one buffer. From `draft_begin` to `draft_commit` a journal is not ready, so a caller that
-//! gives up between them leaves it to be opened anew.
+//! stops between them leaves it to be opened anew.
+//!
+//! A draft may give another value, in place of the journal's own. `draft_turn_to` takes it on in memory, and the regions
+//! in use give the old one until `draft_commit`. `Journal::give_up` ends a journal's use, and its files stay: it is opened
+//! anew.
 //!
 //! Invariants, and where each stands:
 //!
@@ -22,8 +26,8 @@
 //! 4. The weight is the bytes that the regions take, or would take when written anew, at most: the greater of the slot's end
 //!    and a bound by the value's size (`shown_of`), so a rewrite makes nothing heavier. A full disk is told the room that one
 //!    of the family's two slots needs for a payload that the call may put there: `full` of `IsRefused`.
-//! 5. Before a draft is committed the regions in use give the old value at each moment: `IsDrafting` and `Drafts` in
-//!    specs/Drafts.antt. From the commit's Ok on its own words do: `IsCommitted`.
+//! 5. Before a draft is committed the regions in use give the value that stands at each moment, the old one: `IsDrafting` and
+//!    `Drafts` in specs/Drafts.antt. From the commit's Ok on the draft's words give the journal's: `IsCommitted`.
 //! 6. Memory is taken before the region is written. A value that takes memory behind the write, too, says so (`lost`), and a
 //!    journal that wants it then has failed: `untouched` of `IsRefused`.
 //!
