@@ -5,8 +5,7 @@ use Rattle.std.specs.Result.{IsErrAnd}
 use Rattle.std.proofs.lemmas.List.{length-map, map-append}
 use Rattle.std.proofs.lemmas.Result.{IfErr-weaker}
 use Rattle.den_disk.specs.declared.disk.Disk.{Ghosts as DiskGhosts}
-use Rattle.den_disk.specs.declared.place.Family.{Family}
-use Rattle.den_disk.specs.Files.{Files, Kind}
+use Rattle.den_disk.specs.Files.{Kind}
 use Rattle.den_model.specs.declared.log_id.LogId.{LogId}
 use Rattle.den_model.specs.declared.region.StateRegion.{StateRegion}
 use Rattle.den_model.specs.declared.region.StateRegion.TheVariants.{Begin, Pairs}
@@ -31,35 +30,14 @@ use Rattle.den_journal.specs.declared.folded.Folded.{Ghosts}
 use Rattle.den_journal.specs.declared.journal.Journal.{Journal}
 use Rattle.den_journal.specs.Causes.{IsFullFor}
 use Rattle.den_journal.specs.Drafts.{Drafts, IsDrafting, Pushes}
+use Rattle.den_journal.specs.Journals.{journal_shown}
 use Rattle.den_journal.specs.Shown.{rewrite_size}
 use Rattle.den_journal.specs.Writes.{DiskTells}
 use Rattle.den_journal.proofs.Drafting.{drafts_then, full_for, push_wanting}
+use Rattle.den_journal.proofs.Moving.{first_of}
+use Rattle.den_journal.proofs.Seen.{more_full, more_heavy}
 use Rattle.den_state.specs.declared.stored_map.StoredMap.{StoredMap}
 use Rattle.den_state.specs.Checkpoint.{IsCheckpointSize, IsShortPage, IsWriting, Next, Steps, words_of}
-
-pub more_heavy : (most weight more : ℕ) (e : Error) → weight ≤ more → IsHeavy most weight e → IsHeavy most more e
-more_heavy most weight more (error.DiskFull needed limit) le h = omega arith
-more_heavy most weight more error.OutOfMemory le h = tt
-more_heavy most weight more error.StorageIoError le h = tt
-more_heavy most weight more error.LinkFault le h = tt
-more_heavy most weight more (error.DataCorruption place offset) le h = tt
-more_heavy most weight more error.FeatureNotEnabled le h = tt
-more_heavy most weight more error.ProposeFailed le h = tt
-more_heavy most weight more (error.UnorderedChunk index) le h = tt
-more_heavy most weight more (error.Config place) le h = tt
-more_heavy most weight more error.StateMachineError le h = tt
-
-later_full : (told more : Type 0) (family : Family) (files : Files) (most : ℕ) (adds drafts : ℕ → Type 0) (e : Error) → (more → told) → IsFullFor told family files most adds drafts e → IsFullFor more family files most adds drafts e
-later_full told more family files most adds drafts (error.DiskFull needed limit) on f = (f.0, λ t. f.1 (on t))
-later_full told more family files most adds drafts error.OutOfMemory on f = tt
-later_full told more family files most adds drafts error.StorageIoError on f = tt
-later_full told more family files most adds drafts error.LinkFault on f = tt
-later_full told more family files most adds drafts (error.DataCorruption place offset) on f = tt
-later_full told more family files most adds drafts error.FeatureNotEnabled on f = tt
-later_full told more family files most adds drafts error.ProposeFailed on f = tt
-later_full told more family files most adds drafts (error.UnorderedChunk index) on f = tt
-later_full told more family files most adds drafts (error.Config place) on f = tt
-later_full told more family files most adds drafts error.StateMachineError on f = tt
 
 -- ---- what the payloads take
 
@@ -104,10 +82,10 @@ none_key (p ∷ ps) is = absurd (cc is)
 
 -- ---- the calls
 
-module _ (fold : Ghosts StoredMap StateRegion) {D : Type 0} (disk : DiskGhosts D) (m : MapState) where
+module _ (fold : Ghosts StoredMap StateRegion) {D : Type 0} (disk : DiskGhosts D) (stands : fold.Value) (m : MapState) where
   -- a payload that is pushed
-  pub pushed_steps : (was now : Journal StoredMap) (old new : D) (words : List (List ℕ)) (word : List ℕ) {T : Type 0} (r : Result T Error) (most : ℕ) → Pushes fold disk was now old new words word r
-      → length (open_regions words) + length word ≤ most → IsCheckpointSize m (length word) → Steps fold disk m was now old new most [] r
+  pub pushed_steps : (was now : Journal StoredMap) (old new : D) (words : List (List ℕ)) (word : List ℕ) {T : Type 0} (r : Result T Error) (most : ℕ) → Pushes fold disk was now old new stands words word r
+      → length (open_regions words) + length word ≤ most → IsCheckpointSize m (length word) → Steps fold disk stands m was now old new most [] r
   pushed_steps was now old new words word r most p small meant = record {
     drafts = p.drafts;
     full = IfErr-weaker r _ _ (λ e h. full_for (DiskTells disk old) (DiskTells disk old) fold.FAMILY (disk.content new).reading (length (open_regions words)) (length word) most (λ n. ⊥) (IsCheckpointSize m) e (λ t. t) small meant h) p.full;
@@ -115,10 +93,10 @@ module _ (fold : Ghosts StoredMap StateRegion) {D : Type 0} (disk : DiskGhosts D
   }
 
   -- what was left is what it is, whatever is answered
-  pub steps_ok : (was now : Journal StoredMap) (old new : D) (most : ℕ) (vs : List fold.Value) {S T : Type 0} (r : Result S Error) (x : T) → Steps fold disk m was now old new most vs r → Steps fold disk m was now old new most vs (Ok x)
+  pub steps_ok : (was now : Journal StoredMap) (old new : D) (most : ℕ) (vs : List fold.Value) {S T : Type 0} (r : Result S Error) (x : T) → Steps fold disk stands m was now old new most vs r → Steps fold disk stands m was now old new most vs (Ok x)
   steps_ok was now old new most vs r x s = record { drafts = record { goes_on = s.drafts.goes_on; moves = s.drafts.moves; cause = tt; failed = tt; same_value = tt }; full = tt; heavy = tt }
 
-  pub steps_err : (was now : Journal StoredMap) (old new : D) (most : ℕ) (vs : List fold.Value) {S T : Type 0} (e : Error) → Steps fold disk m was now old new {T = S} most vs (Err e) → Steps fold disk m was now old new {T = T} most vs (Err e)
+  pub steps_err : (was now : Journal StoredMap) (old new : D) (most : ℕ) (vs : List fold.Value) {S T : Type 0} (e : Error) → Steps fold disk stands m was now old new {T = S} most vs (Err e) → Steps fold disk stands m was now old new {T = T} most vs (Err e)
   steps_err was now old new most vs e s = record {
     drafts = record { goes_on = s.drafts.goes_on; moves = s.drafts.moves; cause = s.drafts.cause; failed = s.drafts.failed; same_value = s.drafts.same_value };
     full = s.full;
@@ -127,16 +105,17 @@ module _ (fold : Ghosts StoredMap StateRegion) {D : Type 0} (disk : DiskGhosts D
 
   -- one stretch behind another
   pub steps_then : (was mid now : Journal StoredMap) (old d new : D) (most : ℕ) (vs : List fold.Value) {S T : Type 0} (x : S) (r : Result T Error) → mid.held ≡ was.held
-      → Steps fold disk m was mid old d most [] (Ok x) → Steps fold disk m mid now d new most vs r → Steps fold disk m was now old new most vs r
+      → Steps fold disk stands m was mid old d most [] (Ok x) → Steps fold disk stands m mid now d new most vs r → Steps fold disk stands m was now old new most vs r
   steps_then was mid now old d new most vs x r held one two = record {
-    drafts = drafts_then fold disk was mid now old d new vs x r (ap fold.value held) one.drafts two.drafts;
-    full = IfErr-weaker r _ _ (λ e h. later_full (DiskTells disk d) (DiskTells disk old) fold.FAMILY (disk.content new).reading most (λ n. ⊥) (IsCheckpointSize m) e (λ tells. subst (λ (k : Kind). IsTrue k.tells) (sym one.drafts.goes_on.same) tells) h) two.full;
+    drafts = drafts_then fold disk stands was mid now old d new vs x r (ap fold.value held) one.drafts two.drafts;
+    full = IfErr-weaker r _ _ (λ e h. more_full (DiskTells disk d) (DiskTells disk old) fold.FAMILY (disk.content new).reading most most (λ n. ⊥) (IsCheckpointSize m) (λ n. ⊥) (IsCheckpointSize m) e
+        (λ tells. subst (λ (k : Kind). IsTrue k.tells) (sym one.drafts.goes_on.same) tells) (omega arith) (λ n h. h) (λ n h. h) h) two.full;
     heavy = subst (λ (n : ℕ). IfErr r (IsHeavy n most)) (ap (λ (k : Kind). k.limit) one.drafts.goes_on.same) two.heavy;
   }
 
   -- a call that a fault alone refuses
-  pub steps_by : (was now : Journal StoredMap) (old new : D) (most : ℕ) (vs : List fold.Value) {T : Type 0} (r : Result T Error) → Drafts fold disk was now old new (fold.value was.held ∷ vs) r → IfErr r (λ e. e ≡ StorageIoError)
-      → Steps fold disk m was now old new most vs r
+  pub steps_by : (was now : Journal StoredMap) (old new : D) (most : ℕ) (vs : List fold.Value) {T : Type 0} (r : Result T Error) → Drafts fold disk was now old new (stands ∷ vs) r → IfErr r (λ e. e ≡ StorageIoError)
+      → Steps fold disk stands m was now old new most vs r
   steps_by was now old new most vs (Ok x) drafts is = record { drafts = drafts; full = tt; heavy = tt }
   steps_by was now old new most vs (Err e) drafts is = record {
     drafts = drafts;
@@ -144,13 +123,28 @@ module _ (fold : Ghosts StoredMap StateRegion) {D : Type 0} (disk : DiskGhosts D
     heavy = subst (IsHeavy (disk.kind old).limit most) (sym is) tt;
   }
 
+  -- what leaves the value that stands leaves one of more
+  pub steps_more : (was now : Journal StoredMap) (old new : D) (most : ℕ) (vs : List fold.Value) {T : Type 0} (r : Result T Error) → Steps fold disk stands m was now old new most [] r → Steps fold disk stands m was now old new most vs r
+  steps_more was now old new most vs r s = record {
+    drafts = record {
+      goes_on = s.drafts.goes_on;
+      moves = λ tells. let moves = s.drafts.moves tells in
+          record { own = λ told t files low high i. first_of stands vs _ (moves.own told t files low high i); others = moves.others; spares = moves.spares };
+      cause = s.drafts.cause;
+      failed = s.drafts.failed;
+      same_value = s.drafts.same_value;
+    };
+    full = s.full;
+    heavy = s.heavy;
+  }
+
   -- the mark is
   pub mark_writing : (now : Journal StoredMap) (new : D) (mark : LogId) {T : Type 0} (r : Result T Error) (most : ℕ) → mark ≡ m.mark → now.held.map ≡ m → rewrite_size (pairs_size m.pairs) ≤ most
-      → OnOk r (IsDrafting fold disk now (state_region_word (Begin mark.index mark.term) ∷ []) new) → OnOk r (FitsStateRegion (Begin mark.index mark.term)) → OnOk r (IsWriting fold disk m most None now new)
+      → OnOk r (IsDrafting fold disk stands now (state_region_word (Begin mark.index mark.term) ∷ []) new) → OnOk r (FitsStateRegion (Begin mark.index mark.term)) → OnOk r (IsWriting fold disk stands m most None now new)
   mark_writing now new mark (Ok x) most same is_map light drafting fits = record {
     pages = [];
     left = stored_pairs m;
-    drafting = subst (λ (p : LogId). IsDrafting fold disk now (state_region_word (Begin p.index p.term) ∷ []) new) same drafting;
+    drafting = subst (λ (p : LogId). IsDrafting fold disk stands now (state_region_word (Begin p.index p.term) ∷ []) new) same drafting;
     parts = refl;
     last_is = refl;
     short = tt;
@@ -161,9 +155,16 @@ module _ (fold : Ghosts StoredMap StateRegion) {D : Type 0} (disk : DiskGhosts D
   }
   mark_writing now new mark (Err e) most same is_map light drafting fits = tt
 
+  -- the same where the journal has the map still
+  pub writing_held : (was now : Journal StoredMap) (new : D) → now.held ≡ was.held → (journal_shown fold now).weight ≡ (journal_shown fold was).weight → was.held.map ≡ m
+      → IsWriting fold disk stands m (journal_shown fold was).weight None now new → IsWriting fold disk stands now.held.map (journal_shown fold now).weight None now new
+  writing_held was now new held weight is_map w =
+      subst (λ (n : ℕ). IsWriting fold disk stands now.held.map n None now new) (sym weight)
+      (subst (λ (o : MapState). IsWriting fold disk stands o (journal_shown fold was).weight None now new) (sym (ap (λ (h : StoredMap). h.map) held ∙ is_map)) w)
+
   -- ---- a page
 
-  module _ (most : ℕ) (last : Option (List ℕ)) (was : Journal StoredMap) (old : D) (w : IsWriting fold disk m most last was old) where
+  module _ (most : ℕ) (last : Option (List ℕ)) (was : Journal StoredMap) (old : D) (w : IsWriting fold disk stands m most last was old) where
     -- behind the last key are the pairs that are left
     left_long : IsSound m → length (behind last m.pairs) ≡ length w.left
     left_long sound =
@@ -176,24 +177,24 @@ module _ (fold : Ghosts StoredMap StateRegion) {D : Type 0} (disk : DiskGhosts D
     page_is over key page same is gives = gives (flat_map (λ page. page) w.pages) w.left (w.parts ∙ sym (ap stored_pairs same)) (is ∙ w.last_is)
 
     -- memory was wanting
-    pub wanting : Law disk → {T : Type 0} (r : Result T Error) → IsErrAnd r (λ e. e ≡ OutOfMemory) → Steps fold disk m was was old old most [] r
+    pub wanting : Law disk → {T : Type 0} (r : Result T Error) → IsErrAnd r (λ e. e ≡ OutOfMemory) → Steps fold disk stands m was was old old most [] r
     wanting law (Ok x) is = absurd is
     wanting law (Err e) is = record {
-      drafts = (push_wanting fold disk law was was old (words_of m w.pages) [] w.drafting refl refl (Err e) is).drafts;
+      drafts = (push_wanting fold disk law stands was was old (words_of m w.pages) [] w.drafting refl refl (Err e) is).drafts;
       full = subst (IsFullFor (DiskTells disk old) fold.FAMILY (disk.content old).reading most (λ n. ⊥) (IsCheckpointSize m)) (sym is) tt;
       heavy = subst (IsHeavy (disk.kind old).limit most) (sym is) tt;
     }
 
     -- nothing was done
-    pub no_steps : Law disk → Steps fold disk m was was old old most [] (Ok (tt {0}))
+    pub no_steps : Law disk → Steps fold disk stands m was was old old most [] (Ok (tt {0}))
     no_steps law = steps_ok was was old old most [] {S = Unit {0}} (Err error.OutOfMemory) (tt {0}) (wanting law (Err error.OutOfMemory) refl)
 
-    pub wanting_next : Law disk → (r : Result Bool Error) → IsErrAnd r (λ e. e ≡ OutOfMemory) → Next fold disk m was was old old most last last r
+    pub wanting_next : Law disk → (r : Result Bool Error) → IsErrAnd r (λ e. e ≡ OutOfMemory) → Next fold disk stands m was was old old most last last r
     wanting_next law (Ok x) is = absurd is
     wanting_next law (Err e) is = record { steps = wanting law (Err e) is; writing = tt; written = tt; fewer = tt }
 
     -- no pair is left
-    pub none_next : Law disk → (page : List StoredPair) → IsPage w.left page → None ≡ last_key page → IsSound m → Next fold disk m was was old old most last last (Ok false)
+    pub none_next : Law disk → (page : List StoredPair) → IsPage w.left page → None ≡ last_key page → IsSound m → Next fold disk stands m was was old old most last last (Ok false)
     none_next law page one none sound = record {
       steps = steps_ok was was old old most [] {S = Unit {0}} (Err error.OutOfMemory) false (wanting law (Err error.OutOfMemory) refl);
       writing = w;
@@ -231,16 +232,16 @@ module _ (fold : Ghosts StoredMap StateRegion) {D : Type 0} (disk : DiskGhosts D
         is = refl;
       })
 
-      pub page_steps : {T : Type 0} (r : Result T Error) → Pushes fold disk was now old new (words_of m w.pages) (state_region_word (Pairs page)) r → Steps fold disk m was now old new most [] r
+      pub page_steps : {T : Type 0} (r : Result T Error) → Pushes fold disk was now old new stands (words_of m w.pages) (state_region_word (Pairs page)) r → Steps fold disk stands m was now old new most [] r
       page_steps r p = pushed_steps was now old new (words_of m w.pages) (state_region_word (Pairs page)) r most p small meant
 
-      pub page_next : {T : Type 0} (x : T) → Pushes fold disk was now old new (words_of m w.pages) (state_region_word (Pairs page)) (Ok x) → FitsStateRegion (Pairs page) → now.held.map ≡ m → IsSound m
-          → Next fold disk m was now old new most last (Some key) (Ok true)
+      pub page_next : {T : Type 0} (x : T) → Pushes fold disk was now old new stands (words_of m w.pages) (state_region_word (Pairs page)) (Ok x) → FitsStateRegion (Pairs page) → now.held.map ≡ m → IsSound m
+          → Next fold disk stands m was now old new most last (Some key) (Ok true)
       page_next x p fits is_map sound =
-          let after : IsWriting fold disk m most (Some key) now new = record {
+          let after : IsWriting fold disk stands m most (Some key) now new = record {
             pages = w.pages ++ page ∷ [];
             left = drop (length page) w.left;
-            drafting = subst (λ (ws : List (List ℕ)). IsDrafting fold disk now ws new) (sym (words_push m w.pages page)) p.pushed;
+            drafting = subst (λ (ws : List (List ℕ)). IsDrafting fold disk stands now ws new) (sym (words_push m w.pages page)) p.pushed;
             parts = parts;
             last_is = is ∙ sym (ap last_key (pairs_push w.pages page) ∙ last_goes_on (flat_map (λ page. page) w.pages) page some);
             short = short;
@@ -256,10 +257,10 @@ module _ (fold : Ghosts StoredMap StateRegion) {D : Type 0} (disk : DiskGhosts D
             fewer = λ _. omega (arith, left_long sound, length_behind now new after sound, walk_smaller w.left page one some);
           }
         where
-          length_behind : (now : Journal StoredMap) (new : D) (after : IsWriting fold disk m most (Some key) now new) → IsSound m → length (behind (Some key) m.pairs) ≡ length after.left
+          length_behind : (now : Journal StoredMap) (new : D) (after : IsWriting fold disk stands m most (Some key) now new) → IsSound m → length (behind (Some key) m.pairs) ≡ length after.left
           length_behind now new after sound =
               sym (length-map (behind (Some key) m.pairs) (stored m.expiries))
               ∙ ap length (ap (λ k. map (stored m.expiries) (behind k m.pairs)) after.last_is ∙ behind_front m.expiries after.left (flat_map (λ page. page) after.pages) m.pairs sound.sorted after.parts)
 
-      pub page_refused : {T : Type 0} (e : Error) → Pushes fold disk was now old new {T = T} (words_of m w.pages) (state_region_word (Pairs page)) (Err e) → Next fold disk m was now old new most last (Some key) (Err e)
+      pub page_refused : {T : Type 0} (e : Error) → Pushes fold disk was now old new {T = T} stands (words_of m w.pages) (state_region_word (Pairs page)) (Err e) → Next fold disk stands m was now old new most last (Some key) (Err e)
       page_refused e p = record { steps = steps_err was now old new most [] e (page_steps (Err e) p); writing = tt; written = tt; fewer = tt }

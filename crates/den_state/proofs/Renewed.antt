@@ -2,52 +2,25 @@
 use Rattle.std.proofs.Common.{◌≡◌, inl, inr, ⊎_elim, ◌∙◌, ℕ, ◌+◌, ◌≤◌, IsTrue, [], ◌∷◌, Some, Result, Ok, Err, sym, ap, subst, arith}
 use Rattle.std.proofs.Math.Nat.{le_refl}
 use Rattle.den_disk.specs.declared.disk.Disk.{Ghosts as DiskGhosts}
-use Rattle.den_disk.specs.declared.place.Family.{Family}
 use Rattle.den_disk.specs.declared.place.Family.TheVariants.{State}
-use Rattle.den_disk.specs.declared.place.Place.{Place}
 use Rattle.den_disk.specs.Files.{Files, Kind}
 use Rattle.den_disk.specs.Goes.{Rose}
-use Rattle.den_model.specs.Image.{slot_of}
 use Rattle.den_model.specs.MapState.{MapState}
-use Rattle.den_gate.specs.Draft.{other_slot}
 use Rattle.den_codec.specs.declared.error.Error.{Error}
-use Rattle.den_codec.specs.declared.error.Error.TheVariants as error
 use Rattle.den_codec.specs.Full.{IsHeavy}
 use Rattle.den_journal.specs.declared.journal.Journal.{Journal}
-use Rattle.den_journal.specs.Causes.{IsFullFor, IsTooShort}
 use Rattle.den_journal.specs.Journals.{journal_shown}
 use Rattle.den_journal.specs.Shown.{Effect, Held, IsOneOf, Shown, seen_as}
 use Rattle.den_journal.specs.Writes.{Faulted, GoesOn, Moves, DiskTells, Writes}
 use Rattle.den_journal.proofs.Drafting.{later_cause}
 use Rattle.den_journal.proofs.Moving.{moves_behind}
+use Rattle.den_journal.proofs.Seen.{more_full, more_heavy}
 use Rattle.den_state.specs.contracts.stored_map.StoredMapFolded.TheImpl.{ghosts}
 use Rattle.den_state.specs.declared.stored_map.StoredMap.{StoredMap}
 use Rattle.den_state.specs.Checkpoint.{IsCheckpointSize, Renews, renew_change}
 use Rattle.den_state.specs.FileState.{map_held}
 use Rattle.den_state.specs.Folds.{held_map}
 use Rattle.den_state.specs.Stored.{Stored}
-use Rattle.den_state.proofs.Checkpointing.{more_heavy}
-
--- ---- a full disk, of more bytes and of more sizes
-
-more_short : (slot : Place) (sizes more : ℕ → Type 0) (needed : ℕ) (files : Files) → ((n : ℕ) → sizes n → more n) → IsTooShort slot sizes needed files → IsTooShort slot more needed files
-more_short slot sizes more needed files on s = record { size = s.size; meant = on s.size s.meant; room = s.room; short = s.short }
-
-pub wider_full : (told more_told : Type 0) (family : Family) (files : Files) (most more : ℕ) (adds drafts more_adds more_drafts : ℕ → Type 0) (e : Error) → (more_told → told) → most ≤ more
-    → ((n : ℕ) → adds n → more_adds n) → ((n : ℕ) → drafts n → more_drafts n) → IsFullFor told family files most adds drafts e → IsFullFor more_told family files more more_adds more_drafts e
-wider_full told more_told family files most more adds drafts more_adds more_drafts (error.DiskFull needed limit) tells le on_adds on_drafts f = (
-  record { size = f.0.size; within = omega (arith, f.0.within); room = f.0.room },
-  λ t. ⊎_elim (λ s. inl (more_short (slot_of family files) adds more_adds needed files on_adds s)) (λ s. inr (more_short (other_slot (slot_of family files)) drafts more_drafts needed files on_drafts s)) (f.1 (tells t)),
-)
-wider_full told more_told family files most more adds drafts more_adds more_drafts error.OutOfMemory tells le on_adds on_drafts f = tt
-wider_full told more_told family files most more adds drafts more_adds more_drafts error.StorageIoError tells le on_adds on_drafts f = tt
-wider_full told more_told family files most more adds drafts more_adds more_drafts error.LinkFault tells le on_adds on_drafts f = tt
-wider_full told more_told family files most more adds drafts more_adds more_drafts (error.DataCorruption place offset) tells le on_adds on_drafts f = tt
-wider_full told more_told family files most more adds drafts more_adds more_drafts error.FeatureNotEnabled tells le on_adds on_drafts f = tt
-wider_full told more_told family files most more adds drafts more_adds more_drafts error.ProposeFailed tells le on_adds on_drafts f = tt
-wider_full told more_told family files most more adds drafts more_adds more_drafts (error.UnorderedChunk index) tells le on_adds on_drafts f = tt
-wider_full told more_told family files most more adds drafts more_adds more_drafts (error.Config place) tells le on_adds on_drafts f = tt
-wider_full told more_told family files most more adds drafts more_adds more_drafts error.StateMachineError tells le on_adds on_drafts f = tt
 
 -- ---- alone
 
@@ -60,7 +33,7 @@ module _ {D : Type 0} (disk : DiskGhosts D) (was now : Journal StoredMap) (old n
   m = was.held.map
 
   -- each crash leaves the map
-  anew_moves : {T : Type 0} (r : Result T Error) → Renews ghosts disk was.held.map was now old new (journal_shown ghosts was).weight r → DiskTells disk old → Moves disk State map_held (was.held.map ∷ was.held.map ∷ []) old new
+  anew_moves : {T : Type 0} (r : Result T Error) → Renews ghosts disk (ghosts.value was.held) was.held.map was now old new (journal_shown ghosts was).weight r → DiskTells disk old → Moves disk State map_held (was.held.map ∷ was.held.map ∷ []) old new
   anew_moves r a tells =
       let moves = a.steps.drafts.moves tells in
       record {
@@ -69,7 +42,7 @@ module _ {D : Type 0} (disk : DiskGhosts D) (was now : Journal StoredMap) (old n
         spares = moves.spares;
       }
 
-  pub anew_writes : {T : Type 0} (r : Result T Error) → Renews ghosts disk was.held.map was now old new (journal_shown ghosts was).weight r → Writes disk (map_shown was) (map_shown now) old new State map_held (renew_change was.held.map) r
+  pub anew_writes : {T : Type 0} (r : Result T Error) → Renews ghosts disk (ghosts.value was.held) was.held.map was now old new (journal_shown ghosts was).weight r → Writes disk (map_shown was) (map_shown now) old new State map_held (renew_change was.held.map) r
   anew_writes (Ok x) a = record {
     goes_on = a.steps.drafts.goes_on;
     moves = anew_moves (Ok x) a;
@@ -82,7 +55,7 @@ module _ {D : Type 0} (disk : DiskGhosts D) (was now : Journal StoredMap) (old n
     done = tt;
     refused = record {
       cause = a.steps.drafts.cause;
-      full = wider_full (DiskTells disk old) (DiskTells disk old × map_held.told) State (disk.content new).reading (journal_shown ghosts was).weight ((journal_shown ghosts was).weight + 0) (λ n. ⊥) (IsCheckpointSize was.held.map) (λ n. ⊥) (IsCheckpointSize was.held.map) e (λ t. t.0) (omega arith) (λ n h. h) (λ n h. h) a.steps.full;
+      full = more_full (DiskTells disk old) (DiskTells disk old × map_held.told) State (disk.content new).reading (journal_shown ghosts was).weight ((journal_shown ghosts was).weight + 0) (λ n. ⊥) (IsCheckpointSize was.held.map) (λ n. ⊥) (IsCheckpointSize was.held.map) e (λ t. t.0) (omega arith) (λ n h. h) (λ n h. h) a.steps.full;
       heavy = more_heavy (disk.kind old).limit (journal_shown ghosts was).weight ((journal_shown ghosts was).weight + 0) e (omega arith) a.steps.heavy;
       untouched = λ _. inr (record {
         may_be = tt;
@@ -148,7 +121,7 @@ module _ {D : Type 0} (disk : DiskGhosts D) (holds : Held MapState) (was mid now
       done = tt;
       refused = record {
         cause = later_cause (Faulted disk d new) (Faulted disk old new) (disk.kind old).limit (disk.kind d).limit e (later_rose (disk.faults old) (disk.faults d) (disk.faults new) one.goes_on.counts) (ap (λ (k : Kind). k.limit) one.goes_on.same) two.refused.cause;
-        full = wider_full (DiskTells disk d × holds.told) (DiskTells disk old × holds.told) State (disk.content new).reading (mid.weight + 0) (was.weight + change.rise) (λ n. ⊥) (IsCheckpointSize mid.value) change.adds change.drafts e (λ t. (on t.0, t.1))
+        full = more_full (DiskTells disk d × holds.told) (DiskTells disk old × holds.told) State (disk.content new).reading (mid.weight + 0) (was.weight + change.rise) (λ n. ⊥) (IsCheckpointSize mid.value) change.adds change.drafts e (λ t. (on t.0, t.1))
             (omega (arith, one.done.weight)) (λ n h. absurd h) (λ n h. drafts n (subst (λ (v : MapState). IsCheckpointSize v n) one.done.value h)) two.refused.full;
         heavy = subst (λ (n : ℕ). IsHeavy n (was.weight + change.rise) e) (ap (λ (k : Kind). k.limit) one.goes_on.same)
             (more_heavy (disk.kind d).limit (mid.weight + 0) (was.weight + change.rise) e (omega (arith, one.done.weight)) two.refused.heavy);

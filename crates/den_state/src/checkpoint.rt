@@ -1,10 +1,11 @@
-//! The map written anew: its mark, and its pairs in pages.
-ghost use Rattle.std.specs.Prelude.{◌≡◌, ℕ, false, None, [], IsSome, OnOk};
+//! The map written anew, or another one in its place: its mark, and its pairs in pages.
+ghost use Rattle.std.specs.Prelude.{◌≡◌, ℕ, false, None, [], IsSome, IfErr, OnOk};
 ghost use Rattle.den_model.specs.MapState.{MapState};
 ghost use Rattle.den_journal.specs.Drafts.{IsDrafting};
 ghost use Rattle.den_journal.specs.Journals.{journal_shown};
 ghost use Rattle.den_journal.specs.Writes.{StoreStands};
-ghost use Rattle.den_state.specs.Checkpoint.{IsWriting, IsWritten, Next, Steps, Renews};
+ghost use Rattle.den_state.specs.Checkpoint.{IsWriting, IsWritten, Next, Steps, Renews, Replaces};
+ghost use Rattle.den_state.specs.Stored.{Stored};
 
 use crate::stored_map::StoredMap;
 use den_codec::{Blob, Error, LogId, StateRegion};
@@ -15,12 +16,16 @@ use std::alloc::Global;
 
 // Adds the stored mark to a draft that has nothing yet.
 fn push_mark<D: Disk>(journal: &mut Journal<StoredMap>, disk: &mut D) -> Result<(), Error>
-    requires drafting { IsDrafting ⟦<StoredMap as Folded>⟧ D.Disk journal.old [] disk.old }
-    ensures steps { Steps ⟦<StoredMap as Folded>⟧ D.Disk journal.old.held.map journal.old journal.new disk.old disk.new
+    requires going { journal.old.gate.failed ≡ false }
+    requires begun { IsSome journal.old.gate.draft }
+    ensures steps { (stands : Stored) → IsDrafting ⟦<StoredMap as Folded>⟧ D.Disk stands journal.old [] disk.old
+        → Steps ⟦<StoredMap as Folded>⟧ D.Disk stands journal.old.held.map journal.old journal.new disk.old disk.new
         (journal_shown ⟦<StoredMap as Folded>⟧ journal.old).weight [] result }
-    ensures writing { OnOk result (IsWriting ⟦<StoredMap as Folded>⟧ D.Disk journal.old.held.map
+    ensures writing { (stands : Stored) → IsDrafting ⟦<StoredMap as Folded>⟧ D.Disk stands journal.old [] disk.old
+        → OnOk result (IsWriting ⟦<StoredMap as Folded>⟧ D.Disk stands journal.old.held.map
         (journal_shown ⟦<StoredMap as Folded>⟧ journal.old).weight None journal.new disk.new) }
     ensures held { journal.new.held ≡ journal.old.held }
+    ensures slot { journal.new.gate.slot ≡ journal.old.gate.slot }
     ensures weight { (journal_shown ⟦<StoredMap as Folded>⟧ journal.new).weight ≡ (journal_shown ⟦<StoredMap as Folded>⟧ journal.old).weight }
 {
     let LogId { index, term } = journal.held().map.mark();
@@ -36,9 +41,10 @@ fn push_page<D: Disk>(
 ) -> Result<bool, Error>
     requires going { journal.old.gate.failed ≡ false }
     requires begun { IsSome journal.old.gate.draft }
-    ensures next { (m : MapState) (most : ℕ) → IsWriting ⟦<StoredMap as Folded>⟧ D.Disk m most last.old journal.old disk.old
-        → Next ⟦<StoredMap as Folded>⟧ D.Disk m journal.old journal.new disk.old disk.new most last.old last.new result }
+    ensures next { (stands : Stored) (m : MapState) (most : ℕ) → IsWriting ⟦<StoredMap as Folded>⟧ D.Disk stands m most last.old journal.old disk.old
+        → Next ⟦<StoredMap as Folded>⟧ D.Disk stands m journal.old journal.new disk.old disk.new most last.old last.new result }
     ensures held { journal.new.held ≡ journal.old.held }
+    ensures slot { journal.new.gate.slot ≡ journal.old.gate.slot }
 {
     let page = journal.held().map.page(alloc, last.as_ref())?;
     match last_key(page.as_slice()) {
@@ -57,12 +63,17 @@ fn push_pages<D: Disk>(
     journal: &mut Journal<StoredMap>,
     disk: &mut D,
 ) -> Result<(), Error>
-    requires writing { IsWriting ⟦<StoredMap as Folded>⟧ D.Disk journal.old.held.map
+    requires writing { (stands : Stored) × IsWriting ⟦<StoredMap as Folded>⟧ D.Disk stands journal.old.held.map
         (journal_shown ⟦<StoredMap as Folded>⟧ journal.old).weight None journal.old disk.old }
-    ensures steps { Steps ⟦<StoredMap as Folded>⟧ D.Disk journal.old.held.map journal.old journal.new disk.old disk.new
+    ensures steps { (stands : Stored) → IsWriting ⟦<StoredMap as Folded>⟧ D.Disk stands journal.old.held.map
+        (journal_shown ⟦<StoredMap as Folded>⟧ journal.old).weight None journal.old disk.old
+        → Steps ⟦<StoredMap as Folded>⟧ D.Disk stands journal.old.held.map journal.old journal.new disk.old disk.new
         (journal_shown ⟦<StoredMap as Folded>⟧ journal.old).weight [] result }
-    ensures written { OnOk result (IsWritten ⟦<StoredMap as Folded>⟧ D.Disk journal.old.held.map journal.new disk.new) }
+    ensures written { (stands : Stored) → IsWriting ⟦<StoredMap as Folded>⟧ D.Disk stands journal.old.held.map
+        (journal_shown ⟦<StoredMap as Folded>⟧ journal.old).weight None journal.old disk.old
+        → OnOk result (IsWritten ⟦<StoredMap as Folded>⟧ D.Disk stands journal.old.held.map journal.new disk.new) }
     ensures held { journal.new.held ≡ journal.old.held }
+    ensures slot { journal.new.gate.slot ≡ journal.old.gate.slot }
 {
     let mut last = None;
     loop {
@@ -74,36 +85,42 @@ fn push_pages<D: Disk>(
     }
 }
 
-// Begins a draft with the stored mark.
-fn begin<D: Disk>(journal: &mut Journal<StoredMap>, disk: &mut D) -> Result<(), Error>
-    requires stands { StoreStands D.Disk (journal_shown ⟦<StoredMap as Folded>⟧ journal.old) disk.old }
-    ensures steps { Steps ⟦<StoredMap as Folded>⟧ D.Disk journal.old.held.map journal.old journal.new disk.old disk.new
-        (journal_shown ⟦<StoredMap as Folded>⟧ journal.old).weight [] result }
-    ensures writing { OnOk result (IsWriting ⟦<StoredMap as Folded>⟧ D.Disk journal.new.held.map
-        (journal_shown ⟦<StoredMap as Folded>⟧ journal.new).weight None journal.new disk.new) }
-    ensures held { journal.new.held ≡ journal.old.held }
-    ensures weight { (journal_shown ⟦<StoredMap as Folded>⟧ journal.new).weight ≡ (journal_shown ⟦<StoredMap as Folded>⟧ journal.old).weight }
-{
-    match journal.draft_begin(disk) {
-        Ok(()) => push_mark(journal, disk),
-        Err(error) => Err(error),
-    }
-}
-
-// Puts a checkpoint of the map into a draft.
-fn draft<D: Disk>(
+// Adds a checkpoint of the map to a draft that has nothing yet.
+fn push_map<D: Disk>(
     alloc: Global,
     journal: &mut Journal<StoredMap>,
     disk: &mut D,
 ) -> Result<(), Error>
-    requires stands { StoreStands D.Disk (journal_shown ⟦<StoredMap as Folded>⟧ journal.old) disk.old }
-    ensures steps { Steps ⟦<StoredMap as Folded>⟧ D.Disk journal.old.held.map journal.old journal.new disk.old disk.new
+    requires drafting { (stands : Stored) × IsDrafting ⟦<StoredMap as Folded>⟧ D.Disk stands journal.old [] disk.old }
+    ensures steps { (stands : Stored) → IsDrafting ⟦<StoredMap as Folded>⟧ D.Disk stands journal.old [] disk.old
+        → Steps ⟦<StoredMap as Folded>⟧ D.Disk stands journal.old.held.map journal.old journal.new disk.old disk.new
         (journal_shown ⟦<StoredMap as Folded>⟧ journal.old).weight [] result }
-    ensures written { OnOk result (IsWritten ⟦<StoredMap as Folded>⟧ D.Disk journal.old.held.map journal.new disk.new) }
+    ensures written { (stands : Stored) → IsDrafting ⟦<StoredMap as Folded>⟧ D.Disk stands journal.old [] disk.old
+        → OnOk result (IsWritten ⟦<StoredMap as Folded>⟧ D.Disk stands journal.old.held.map journal.new disk.new) }
     ensures held { journal.new.held ≡ journal.old.held }
+    ensures slot { journal.new.gate.slot ≡ journal.old.gate.slot }
 {
-    match begin(journal, disk) {
+    match push_mark(journal, disk) {
         Ok(()) => push_pages(alloc, journal, disk),
+        Err(error) => Err(error),
+    }
+}
+
+// Puts a checkpoint of the map into a draft that has nothing yet, and makes it the family's regions.
+fn commit_map<D: Disk>(
+    alloc: Global,
+    journal: &mut Journal<StoredMap>,
+    disk: &mut D,
+) -> Result<(), Error>
+    requires drafting { (stands : Stored) × IsDrafting ⟦<StoredMap as Folded>⟧ D.Disk stands journal.old [] disk.old }
+    ensures renews { (stands : Stored) → IsDrafting ⟦<StoredMap as Folded>⟧ D.Disk stands journal.old [] disk.old
+        → Renews ⟦<StoredMap as Folded>⟧ D.Disk stands journal.old.held.map journal.old journal.new disk.old disk.new
+        (journal_shown ⟦<StoredMap as Folded>⟧ journal.old).weight result }
+    ensures map { journal.new.held.map ≡ journal.old.held.map }
+    ensures held { IfErr result (λ e. journal.new.held ≡ journal.old.held) }
+{
+    match push_map(alloc, journal, disk) {
+        Ok(()) => journal.draft_commit(disk),
         Err(error) => Err(error),
     }
 }
@@ -115,12 +132,31 @@ pub(crate) fn write_anew<D: Disk>(
     disk: &mut D,
 ) -> Result<(), Error>
     requires stands { StoreStands D.Disk (journal_shown ⟦<StoredMap as Folded>⟧ journal.old) disk.old }
-    ensures renews { Renews ⟦<StoredMap as Folded>⟧ D.Disk journal.old.held.map journal.old journal.new disk.old disk.new
-        (journal_shown ⟦<StoredMap as Folded>⟧ journal.old).weight result }
+    ensures renews { Renews ⟦<StoredMap as Folded>⟧ D.Disk (⟦<StoredMap as Folded>⟧.value journal.old.held) journal.old.held.map
+        journal.old journal.new disk.old disk.new (journal_shown ⟦<StoredMap as Folded>⟧ journal.old).weight result }
     ensures map { journal.new.held.map ≡ journal.old.held.map }
 {
-    match draft(alloc, journal, disk) {
-        Ok(()) => journal.draft_commit(disk),
+    match journal.draft_begin(disk) {
+        Ok(()) => commit_map(alloc, journal, disk),
+        Err(error) => Err(error),
+    }
+}
+
+// Puts another map in the map's place, written anew in the slot that is not in use, which is the one in use then.
+pub(crate) fn replace<D: Disk>(
+    alloc: Global,
+    journal: &mut Journal<StoredMap>,
+    disk: &mut D,
+    held: StoredMap,
+) -> Result<(), Error>
+    requires stands { StoreStands D.Disk (journal_shown ⟦<StoredMap as Folded>⟧ journal.old) disk.old }
+    ensures replaces { Replaces ⟦<StoredMap as Folded>⟧ D.Disk held journal.old journal.new disk.old disk.new result }
+{
+    match journal.draft_begin(disk) {
+        Ok(()) => {
+            journal.draft_turn_to(held);
+            commit_map(alloc, journal, disk)
+        }
         Err(error) => Err(error),
     }
 }
