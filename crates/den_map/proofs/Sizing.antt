@@ -27,7 +27,7 @@ use Rattle.den_map.proofs.Paging.{page_long}
 
 -- ---- tables
 
-size_set : (t : Table Held) (k : List ℕ) (held : Held) → pairs_size (set t k held) ≤ pairs_size t + pair_size k held.value
+pub size_set : (t : Table Held) (k : List ℕ) (held : Held) → pairs_size (set t k held) ≤ pairs_size t + pair_size k held.value
 size_set [] k held = omega arith
 size_set (e ∷ es) k held =
     elim (by_bytes k e.0) as (λ o. pairs_size (match_ordering o ((k, held) ∷ e ∷ es) ((e.0, held) ∷ es) (e ∷ set es k held)) ≤ pairs_size (e ∷ es) + pair_size k held.value) [
@@ -36,7 +36,7 @@ size_set (e ∷ es) k held =
       | Greater ↦ let rest = size_set es k held in omega arith
     ]
 
-size_unset : (t : Table Held) (k : List ℕ) → pairs_size (unset t k) ≤ pairs_size t
+pub size_unset : (t : Table Held) (k : List ℕ) → pairs_size (unset t k) ≤ pairs_size t
 size_unset [] k = omega arith
 size_unset (e ∷ es) k =
     elim (is_same k e.0) as (λ b. pairs_size (cond b es (e ∷ unset es k)) ≤ pairs_size (e ∷ es)) [
@@ -44,7 +44,7 @@ size_unset (e ∷ es) k =
       | false ↦ let rest = size_unset es k in omega arith
     ]
 
-size_kept : (p : List ℕ × Held → Bool) (t : Table Held) → pairs_size (filter p t) ≤ pairs_size t
+pub size_kept : (p : List ℕ × Held → Bool) (t : Table Held) → pairs_size (filter p t) ≤ pairs_size t
 size_kept p [] = omega arith
 size_kept p (e ∷ es) =
     let rest = size_kept p es in

@@ -1,49 +1,23 @@
 -- No payload of a checkpoint is larger than the weight: the one of a map, and of what a chunk or a cleanup makes of it.
-use Rattle.std.specs.Prelude.{◌≡◌, ◌≤◌, ◌+◌, ℕ, max, Bool, true, false, not, cond, filter, List, [], ◌∷◌, ◌++◌, length, Option, if◌then◌else◌}
+use Rattle.std.specs.Prelude.{◌≡◌, ◌≤◌, ◌+◌, ℕ, max, Bool, true, false, not, List, [], ◌∷◌, ◌++◌, length, Option, if◌then◌else◌}
 use Rattle.std.proofs.Common.{inl, inr, ap, arith, length-append}
 use Rattle.den_model.specs.declared.command.Command.{Command}
 use Rattle.den_model.specs.declared.command.Command.TheVariants.{Noop, Insert, Delete, CompareAndSwap}
-use Rattle.den_model.specs.declared.held.Held.{Held}
-use Rattle.den_model.specs.declared.region.StoredPair.{StoredPair}
 use Rattle.den_model.specs.Apply.{carried_out, is_expired, succeeds, with_pair}
 use Rattle.den_model.specs.Entries.{LogEntry}
 use Rattle.den_model.specs.Kv.{Durable}
-use Rattle.den_model.specs.MapState.{MapState, empty_map, map_applied, map_applied_all, part_of}
+use Rattle.den_model.specs.MapState.{MapState, map_applied, map_applied_all, part_of}
 use Rattle.den_model.specs.Sizes.{entries_size, store_rise}
 use Rattle.den_model.specs.Spelling.{u64_word, blob_word, option_word, command_word, entry_word}
-use Rattle.den_model.specs.Table.{Table, is_same, set, unset}
 use Rattle.den_model.proofs.Numbers.{length_u64_word}
 use Rattle.den_map.specs.Pages.{stored_pairs}
-use Rattle.den_map.specs.Sizes.{pair_size, pairs_size, stored_size}
+use Rattle.den_map.specs.Sizes.{pairs_size, stored_size}
 use Rattle.den_map.proofs.Checkpoints.{begin_long, stored_long}
 use Rattle.den_map.proofs.Paging.{page_long, stored_more}
-use Rattle.den_map.proofs.Sizing.{size_with}
+use Rattle.den_map.proofs.Sizing.{size_kept, size_set, size_unset}
 use Rattle.den_journal.specs.Shown.{rewrite_size}
 use Rattle.den_state.specs.Checkpoint.{IsCheckpointSize, IsPageSize}
 use Rattle.den_state.specs.Cleanup.{cleaned_where}
-
--- ---- tables
-
--- a pair more takes no more than itself
-set_size : (t : Table Held) (key value : List ℕ) (term : ℕ) → pairs_size (set t key (record { value = value; term = term })) ≤ pairs_size t + pair_size key value
-set_size t key value term =
-    let one : StoredPair = record { key = key; value = value; term = term; expiry = 0 } in
-    let more : pairs_size (set t key (record { value = value; term = term })) ≤ pairs_size t + stored_size (one ∷ []) = size_with (record empty_map { pairs = t }) (one ∷ []) in
-    omega (arith, more)
-
--- a key less takes no more
-unset_size : (t : Table Held) (key : List ℕ) → pairs_size (unset t key) ≤ pairs_size t
-unset_size [] key = omega arith
-unset_size (e ∷ es) key =
-    let rest = unset_size es key in
-    elim (is_same key e.0) as (λ b. pairs_size (cond b es (e ∷ unset es key)) ≤ pairs_size (e ∷ es)) [ true ↦ omega arith | false ↦ omega arith ]
-
--- nor do those that are kept
-kept_size : (keeps : List ℕ × Held → Bool) (t : Table Held) → pairs_size (filter keeps t) ≤ pairs_size t
-kept_size keeps [] = omega arith
-kept_size keeps (e ∷ es) =
-    let rest = kept_size keeps es in
-    elim (keeps e) as (λ b. pairs_size (cond b (e ∷ filter keeps es) (filter keeps es)) ≤ pairs_size (e ∷ es)) [ true ↦ omega arith | false ↦ omega arith ]
 
 -- ---- entries
 
@@ -74,11 +48,11 @@ swap_long key expected value =
 -- a command's pair is no longer than its entry
 carried_size : (d : Durable) (term moment : ℕ) (c : Command) → pairs_size (carried_out d term moment c).pairs ≤ pairs_size d.pairs + (24 + length (command_word c))
 carried_size d term moment Noop = omega arith
-carried_size d term moment (Insert key value ttl_secs) = omega (arith, set_size d.pairs key value term, insert_long key value ttl_secs)
-carried_size d term moment (Delete key) = omega (arith, unset_size d.pairs key)
+carried_size d term moment (Insert key value ttl_secs) = omega (arith, size_set d.pairs key (record { value = value; term = term }), insert_long key value ttl_secs)
+carried_size d term moment (Delete key) = omega (arith, size_unset d.pairs key)
 carried_size d term moment (CompareAndSwap key expected value) =
     let most = pairs_size d.pairs + (24 + length (command_word (CompareAndSwap key expected value))) in
-    let more = set_size d.pairs key value term in
+    let more = size_set d.pairs key (record { value = value; term = term }) in
     let long = swap_long key expected value in
     elim (succeeds d (CompareAndSwap key expected value)) as (λ b. pairs_size (if b then with_pair d key value term else d).pairs ≤ most) [ true ↦ omega (arith, more, long) | false ↦ omega arith ]
 
@@ -94,7 +68,7 @@ applied_pairs m (e ∷ es) =
 -- a cleanup adds none
 pub cleaned_pairs : (leased : Bool) (moment : ℕ) (m : MapState) → pairs_size (cleaned_where leased moment m).pairs ≤ pairs_size m.pairs
 cleaned_pairs false moment m = omega arith
-cleaned_pairs true moment m = kept_size (λ p. not (is_expired m.expiries moment p.0)) m.pairs
+cleaned_pairs true moment m = size_kept (λ p. not (is_expired m.expiries moment p.0)) m.pairs
 
 -- ---- payloads
 
