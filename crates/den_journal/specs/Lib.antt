@@ -4,6 +4,7 @@ pub mod Folding
 pub mod Journals
 pub mod Lies
 pub mod Meanings
+pub mod OneWord
 pub mod Opening
 pub mod Refused
 pub mod Shown

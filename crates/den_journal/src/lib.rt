@@ -43,8 +43,10 @@
 mod family;
 mod folded;
 mod journal;
+mod one_word;
 mod replay;
 mod words;
 
 pub use folded::Folded;
 pub use journal::Journal;
+pub use one_word::{read_one, write_one};

@@ -1,0 +1,107 @@
+-- A family whose files hold one word.
+use Rattle.std.specs.Prelude.{◌≡◌, ◌⊎◌, ◌<◌, ◌≤◌, ◌^◌, ℕ, List, [], ◌∷◌, length, Option, Some, None, Result, Ok, Err, IfOk, IfErr, OnOk}
+use Rattle.den_disk.specs.declared.disk.Disk.{Ghosts}
+use Rattle.den_disk.specs.declared.place.Family.{Family}
+use Rattle.den_disk.specs.Place.{place_number}
+use Rattle.den_disk.specs.Files.{Files}
+use Rattle.den_disk.specs.Families.{SparesAll, SparesOthers, SparesImages, NoNewImages}
+use Rattle.den_model.specs.Regions.{Region, regions, placed}
+use Rattle.den_model.specs.Image.{head_of, slot_of}
+use Rattle.den_gate.specs.declared.error.GateError.{GateError}
+use Rattle.den_gate.specs.declared.error.GateError.TheVariants as gate
+use Rattle.den_gate.specs.Slot.{room_for}
+use Rattle.den_gate.specs.Steps.{IsSettled}
+use Rattle.den_gate.specs.Draft.{other_slot}
+use Rattle.den_codec.specs.declared.error.Error.{Error}
+use Rattle.den_codec.specs.declared.error.Error.TheVariants.{OutOfMemory, StorageIoError, DiskFull, LinkFault, DataCorruption, FeatureNotEnabled, ProposeFailed, UnorderedChunk, Config, StateMachineError}
+use Rattle.den_journal.specs.Causes.{IsTooShort}
+use Rattle.den_journal.specs.Folding.{IsUnread}
+use Rattle.den_journal.specs.Opening.{IsSynced}
+use Rattle.den_journal.specs.Writes.{GoesOn, DiskTells, Faulted}
+
+-- the value of one region, if there is exactly one and it is a word
+abbrev pub one_of : {A : Type 0} → (List ℕ → Option A) → Result (List Region) ℕ → Option A
+one_of read (Ok []) = None
+one_of read (Ok (r ∷ [])) = read r.payload
+one_of read (Ok (r ∷ s ∷ rs)) = None
+one_of read (Err offset) = None
+
+-- the regions of the slot that the family's head names, or the offset of the gate from which they cannot be read
+abbrev pub found_in : Family → Files → Result (List Region) ℕ
+found_in family files = regions (files (slot_of family files))
+
+-- the value whose word is the one region of the slot that the family's head names
+abbrev pub one_in : {A : Type 0} → Family → (List ℕ → Option A) → Files → Option A
+one_in family read files = one_of read (found_in family files)
+
+-- these words are the regions there
+abbrev pub HasWords : Family → List (List ℕ) → Files → Type 0
+HasWords family words files = found_in family files ≡ Ok (placed 0 words)
+
+-- this word is the one region there
+abbrev pub HasOne : Family → List ℕ → Files → Type 0
+HasOne family word files = HasWords family (word ∷ []) files
+
+-- a gate file's refusal; files that cannot be read are no word, from their first byte on
+abbrev pub no_word : Family → GateError → Error
+no_word family gate.OutOfMemory = OutOfMemory
+no_word family gate.StorageIoError = StorageIoError
+no_word family (gate.Full needed limit) = DiskFull needed limit
+no_word family (gate.DataCorruption part offset) = DataCorruption (place_number (record { family = family; part = part })) 0
+
+-- a disk that is full of one word: it is told the room for that word alone, which the slot that is not in use lacks
+pub record IsFullOfOne (told : Type 0) (family : Family) (files : Files) (size most needed limit : ℕ) : Type 0 where
+  pub room : needed ≡ room_for 0 size
+  pub limit_is : limit ≡ most
+  pub passes : limit < needed
+  pub least : 2 ^ 43 ≤ limit
+  pub short : told → IsTooShort (other_slot (slot_of family files)) (λ n. n ≡ size) needed files
+
+-- why a word of this size is not written: a fault of the disk, where its count rose; a full disk; and, where the disk does not tell
+-- its bytes, files that cannot be read once they were emptied
+abbrev pub IsUnwritten : (rose told : Type 0) (family : Family) (files : Files) (size most : ℕ) → Error → Type 0
+IsUnwritten rose told family files size most StorageIoError = rose
+IsUnwritten rose told family files size most (DiskFull needed limit) = IsFullOfOne told family files size most needed limit
+IsUnwritten rose told family files size most (DataCorruption place offset) = told → ⊥
+IsUnwritten rose told family files size most OutOfMemory = ⊥
+IsUnwritten rose told family files size most LinkFault = ⊥
+IsUnwritten rose told family files size most FeatureNotEnabled = ⊥
+IsUnwritten rose told family files size most ProposeFailed = ⊥
+IsUnwritten rose told family files size most (UnorderedChunk index) = ⊥
+IsUnwritten rose told family files size most (Config place) = ⊥
+IsUnwritten rose told family files size most StateMachineError = ⊥
+
+module _ {D : Type 0} (disk : Ghosts D) (family : Family) where
+  -- files whose regions could be read stay, and no new image comes
+  pub record StaysRead (old new : D) : Type 0 where
+    pub images : NoNewImages (disk.images old) (disk.images new) (disk.moment old) (disk.moment new)
+    pub spares : SparesAll (disk.content old) (disk.content new)
+
+  -- a family's files of one word, all of them on the disk
+  pub record IsOne (word : List ℕ) (at : D) : Type 0 where
+    pub reading : HasOne family word (disk.content at).reading
+    pub images : (files : Files) → disk.images at (disk.moment at) files → HasOne family word files
+    pub slot : IsSettled (slot_of family (disk.content at).reading) (disk.content at)
+    pub head : IsSettled (head_of family) (disk.content at)
+
+  -- A reading of the word that a family's files are, after a sync of all files. `DataCorruption` names the slot in use and its first
+  -- byte; it comes exactly where the files are not one region that is a word.
+  pub record ReadsOne {A : Type 0} (read : List ℕ → Option A) (old new : D) (result : Result A Error) : Type 0 where
+    pub goes_on : GoesOn disk old new
+    pub images : DiskTells disk old → NoNewImages (disk.images old) (disk.images new) (disk.moment old) (disk.moment new)
+    pub spares : DiskTells disk old → SparesAll (disk.content old) (disk.content new)
+    pub settled : DiskTells disk old → IsSynced result (disk.content old) (disk.content new)
+    pub value : DiskTells disk old → IfOk result (λ value. one_in family read (disk.content old).reading ≡ Some value)
+    pub refused : IfErr result (IsUnread (Faulted disk old new) (λ place offset. DiskTells disk old →
+        (place ≡ place_number (slot_of family (disk.content old).reading)) × (offset ≡ 0) × (one_in family read (disk.content old).reading ≡ None)))
+
+  -- A writing of one word in the place of all that a family's files hold. Where their regions were these words in whatever a crash had left before it, a
+  -- crash at each moment leaves those, or this one.
+  pub record WritesOne {T : Type 0} (word : List ℕ) (old new : D) (result : Result T Error) : Type 0 where
+    pub goes_on : GoesOn disk old new
+    pub images : DiskTells disk old → SparesImages family (disk.images old) (disk.images new) (disk.moment old) (disk.moment new)
+    pub spares : DiskTells disk old → SparesOthers family (disk.content old) (disk.content new)
+    pub written : DiskTells disk old → OnOk result (IsOne word new)
+    pub kept : DiskTells disk old → (was : List (List ℕ)) → ((files : Files) → disk.images old (disk.moment old) files → HasWords family was files)
+        → (t : ℕ) (files : Files) → disk.moment old ≤ t → t ≤ disk.moment new → disk.images new t files → HasWords family was files ⊎ HasOne family word files
+    pub refused : IfErr result (IsUnwritten (Faulted disk old new) (DiskTells disk old) family (disk.content new).reading (length word) (disk.kind old).limit)
