@@ -1,9 +1,10 @@
 -- A family whose files hold one word.
-use Rattle.std.specs.Prelude.{◌≡◌, ◌⊎◌, ◌<◌, ◌≤◌, ◌^◌, ℕ, List, [], ◌∷◌, length, Option, Some, None, Result, Ok, Err, IfOk, IfErr, OnOk}
+use Rattle.std.specs.Prelude.{◌≡◌, ◌⊎◌, ◌<◌, ◌≤◌, ◌^◌, ℕ, List, [], ◌∷◌, length, Option, Some, None, Result, Ok, Err, IsErr, IfOk, IfErr, OnOk}
 use Rattle.den_disk.specs.declared.disk.Disk.{Ghosts}
 use Rattle.den_disk.specs.declared.place.Family.{Family}
 use Rattle.den_disk.specs.Place.{place_number}
 use Rattle.den_disk.specs.Files.{Files}
+use Rattle.den_disk.specs.Crash.{Leaves}
 use Rattle.den_disk.specs.Families.{SparesAll, SparesOthers, SparesImages, NoNewImages}
 use Rattle.den_model.specs.Regions.{Region, regions, placed}
 use Rattle.den_model.specs.Image.{head_of, slot_of}
@@ -42,6 +43,20 @@ HasWords family words files = found_in family files ≡ Ok (placed 0 words)
 abbrev pub HasOne : Family → List ℕ → Files → Type 0
 HasOne family word files = HasWords family (word ∷ []) files
 
+-- files whose regions are those of files that a crash before might have left
+pub record IsAsBefore (family : Family) (before : Files → Type 0) (files : Files) : Type 0 where
+  pub origin : Files
+  pub was : before origin
+  pub same : found_in family files ≡ found_in family origin
+
+-- the same regions as these files, or none
+abbrev pub KeepsOrEmpties : Family → Files → Files → Type 0
+KeepsOrEmpties family was files = (found_in family files ≡ found_in family was) ⊎ HasWords family [] files
+
+-- the regions that a crash before might have left, or none, where those could not be read
+abbrev pub IsKept : Family → (before : Files → Type 0) → Files → Files → Type 0
+IsKept family before was files = IsAsBefore family before files ⊎ (IsErr (found_in family was) × HasWords family [] files)
+
 -- a gate file's refusal; files that cannot be read are no word, from their first byte on
 abbrev pub no_word : Family → GateError → Error
 no_word family gate.OutOfMemory = OutOfMemory
@@ -72,11 +87,6 @@ IsUnwritten rose told family files size most (Config place) = ⊥
 IsUnwritten rose told family files size most StateMachineError = ⊥
 
 module _ {D : Type 0} (disk : Ghosts D) (family : Family) where
-  -- files whose regions could be read stay, and no new image comes
-  pub record StaysRead (old new : D) : Type 0 where
-    pub images : NoNewImages (disk.images old) (disk.images new) (disk.moment old) (disk.moment new)
-    pub spares : SparesAll (disk.content old) (disk.content new)
-
   -- a family's files of one word, all of them on the disk
   pub record IsOne (word : List ℕ) (at : D) : Type 0 where
     pub reading : HasOne family word (disk.content at).reading
@@ -95,13 +105,15 @@ module _ {D : Type 0} (disk : Ghosts D) (family : Family) where
     pub refused : IfErr result (IsUnread (Faulted disk old new) (λ place offset. DiskTells disk old →
         (place ≡ place_number (slot_of family (disk.content old).reading)) × (offset ≡ 0) × (one_in family read (disk.content old).reading ≡ None)))
 
-  -- A writing of one word in the place of all that a family's files hold. Where their regions were these words in whatever a crash had left before it, a
-  -- crash at each moment leaves those, or this one.
+  -- A writing of one word in the place of all that a family's files hold. A crash at each moment leaves the regions that a crash before might have
+  -- left, or this word, or none, where the regions could not be read. So where they were some words, they are those or this one.
   pub record WritesOne {T : Type 0} (word : List ℕ) (old new : D) (result : Result T Error) : Type 0 where
     pub goes_on : GoesOn disk old new
     pub images : DiskTells disk old → SparesImages family (disk.images old) (disk.images new) (disk.moment old) (disk.moment new)
     pub spares : DiskTells disk old → SparesOthers family (disk.content old) (disk.content new)
     pub written : DiskTells disk old → OnOk result (IsOne word new)
+    pub any_moment : DiskTells disk old → Leaves disk.content disk.moment disk.images
+        (λ t files. HasOne family word files ⊎ IsKept family (disk.images old (disk.moment old)) (disk.content old).reading files) old new
     pub kept : DiskTells disk old → (was : List (List ℕ)) → ((files : Files) → disk.images old (disk.moment old) files → HasWords family was files)
         → (t : ℕ) (files : Files) → disk.moment old ≤ t → t ≤ disk.moment new → disk.images new t files → HasWords family was files ⊎ HasOne family word files
     pub refused : IfErr result (IsUnwritten (Faulted disk old new) (DiskTells disk old) family (disk.content new).reading (length word) (disk.kind old).limit)

@@ -1,12 +1,13 @@
 //! A family whose files hold one word: one region, read and written as a whole.
-ghost use Rattle.std.specs.Prelude.{◌≡◌, [], false, IsTrue, IsOk, IsErr, IfErr, IfOk, OnOk};
+ghost use Rattle.std.specs.Prelude.{◌≡◌, [], false, IsTrue, IsErr, IfErr, IfOk, OnOk};
+ghost use Rattle.den_disk.specs.Crash.{Leaves};
 ghost use Rattle.den_disk.specs.Goes.{DiskGoesOn, HasCause, Rose};
 ghost use Rattle.den_disk.specs.Families.{SparesOthers, SparesImages};
 ghost use Rattle.den_model.specs.Reading.{whole};
 ghost use Rattle.den_gate.specs.Causes.{Because};
 ghost use Rattle.den_gate.specs.Steps.{RunSparesOthers};
 ghost use Rattle.den_gate.specs.Gate.{IsAtRest, IsCurrent};
-ghost use Rattle.den_journal.specs.OneWord.{found_in, no_word, HasWords, StaysRead, ReadsOne, WritesOne};
+ghost use Rattle.den_journal.specs.OneWord.{no_word, HasWords, IsKept, KeepsOrEmpties, ReadsOne, WritesOne};
 
 use crate::family::{file_number, refusal};
 use den_codec::{Error, Word};
@@ -28,16 +29,13 @@ pub fn read_one<W: Word, D: Disk>(alloc: Global, disk: &mut D, family: Family) -
         Ok(list) => list,
         Err(error) => return Err(no_word(family, error)),
     };
-    let corrupt = Error::DataCorruption {
-        place: file_number(family, gate.part()),
-        offset: 0,
-    };
+    let place = file_number(family, gate.part());
     match list.as_slice() {
         [word] => match W::read(alloc, word.as_slice())? {
             Some(value) => Ok(value),
-            None => Err(corrupt),
+            None => Err(Error::DataCorruption { place, offset: 0 }),
         },
-        _ => Err(corrupt),
+        _ => Err(Error::DataCorruption { place, offset: 0 }),
     }
 }
 
@@ -76,7 +74,8 @@ fn load_or_empty<D: Disk>(family: Family, disk: &mut D) -> Result<GateFile, Gate
     ensures disk { DiskGoesOn D.kind D.moment D.images D.faults disk.old disk.new }
     ensures others { IsTrue (D.kind disk.old).tells → SparesOthers family (D.content disk.old) (D.content disk.new) }
     ensures images { IsTrue (D.kind disk.old).tells → SparesImages family (D.images disk.old) (D.images disk.new) (D.moment disk.old) (D.moment disk.new) }
-    ensures read { IsTrue (D.kind disk.old).tells → IsOk (found_in family (D.content disk.old).reading) → StaysRead D.Disk family disk.old disk.new }
+    ensures any_moment { IsTrue (D.kind disk.old).tells → Leaves D.content D.moment D.images
+        (λ t files. IsKept family (D.images disk.old (D.moment disk.old)) (D.content disk.old).reading files) disk.old disk.new }
     ensures family { IfOk result (λ gate. gate.slot.family ≡ family) }
     ensures ready { IfOk result (λ gate. gate.failed ≡ false) }
     ensures at_rest { IsTrue (D.kind disk.old).tells → IfOk result (λ gate. IsAtRest gate (D.content disk.new)) }
@@ -101,6 +100,8 @@ fn empty<D: Disk>(disk: &mut D, family: Family) -> Result<(), DiskFault>
     ensures kind { D.kind disk.new ≡ D.kind disk.old }
     ensures cause { HasCause (D.faults disk.old) (D.faults disk.new) (IsErr result) }
     ensures run { IsTrue (D.kind disk.old).tells → RunSparesOthers D.content D.moment D.images family disk.old disk.new }
+    ensures any_moment { IsTrue (D.kind disk.old).tells → (D.content disk.old).pending ≡ [] → Leaves D.content D.moment D.images
+        (λ t files. KeepsOrEmpties family (D.content disk.old).reading files) disk.old disk.new }
     ensures emptied { IsTrue (D.kind disk.old).tells → OnOk result (HasWords family [] (D.content disk.new).reading) }
 {
     disk.resize(
