@@ -19,15 +19,15 @@ use Rattle.den_gate.proofs.Alone.{Alone}
 use Rattle.den_gate.proofs.Beside.{named_slot, whole}
 use Rattle.den_gate.proofs.Filling.{no_byte}
 use Rattle.den_gate.proofs.Turning.{others_run, others_then}
-use Rattle.den_journal.specs.OneWord.{found_in, HasWords, KeepsOrEmpties}
+use Rattle.den_journal.specs.OneWord.{family_regions, HasWords, KeepsOrEmpties}
 
 no_regions : regions [] ≡ Ok []
 unfolding regions_behind
 no_regions = refl
 
 -- the same files of a family have the same regions
-pub found_same : (family : Family) (one other : Files) → SameOf family one other → found_in family other ≡ found_in family one
-found_same family one other same =
+pub regions_same : (family : Family) (one other : Files) → SameOf family one other → family_regions family other ≡ family_regions family one
+regions_same family one other same =
     let head : named (other (head_of family)) ≡ named (one (head_of family)) = ap named (same (head_of family) refl) in
     let slot : slot_of family other ≡ slot_of family one = λ i. record { family = family; part = head i } in
     ap (λ (p : Place). regions (other p)) slot ∙ ap regions (same (slot_of family one) refl)
@@ -73,7 +73,7 @@ module _ (family : Family) where
 
   slots_image : (was : Files) (c : Content) (files : Files) → SlotsCut was c → IsImage c files → KeepsOrEmpties family was files
   slots_image was c files s image =
-      let found : found_in family files ≡ found_in family c.reading = found_same family c.reading files (λ q is. plain c files s.none image q) in
+      let found : family_regions family files ≡ family_regions family c.reading = regions_same family c.reading files (λ q is. plain c files s.none image q) in
       let named_same : named (c.reading (head_of family)) ≡ named (was (head_of family)) = ap named s.head in
       let here : c.reading (slot_of family c.reading) ≡ c.reading (slot_of family was) = ap (λ (p : Part). c.reading (file_of p)) named_same in
       ⊎_elim (λ h. inl (found ∙ ap regions (here ∙ h))) (λ h. inr (found ∙ ap regions (here ∙ h) ∙ no_regions)) (s.slot (named (was (head_of family))) (named_slot (was (head_of family))))
@@ -113,7 +113,7 @@ module _ (family : Family) where
   emptied X (Err e) c next gone is = tt
 
   gone_image : (c : Content) (files : Files) → SlotsGone c → IsImage c files → HasWords family [] files
-  gone_image c files s image = found_same family c.reading files (λ q is. plain c files s.none image q) ∙ gone_found c s.slot
+  gone_image c files s image = regions_same family c.reading files (λ q is. plain c files s.none image q) ∙ gone_found c s.slot
 
   -- ---- one call
 

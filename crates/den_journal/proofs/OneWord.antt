@@ -25,24 +25,24 @@ use Rattle.den_gate.specs.Gate.{payloads, IsAtRest, IsCurrent}
 use Rattle.den_gate.specs.Draft.{other_slot, Flips, KeepsList, PassesLimit, RestsWith, Rewrites, WritesOwn}
 use Rattle.den_gate.proofs.Alone.{Law}
 use Rattle.den_gate.proofs.Families.{rest_list, rest_image}
-use Rattle.den_journal.specs.OneWord.{found_in, HasOne, HasWords, IsKept, IsOne, IsUnwritten, KeepsOrEmpties, WritesOne}
+use Rattle.den_journal.specs.OneWord.{family_regions, HasOne, HasWords, IsKept, IsOne, IsUnwritten, KeepsOrEmpties, WritesOne}
 use Rattle.den_journal.specs.Refused.{refusal}
 use Rattle.den_journal.specs.Writes.{GoesOn, DiskTells, Faulted}
-use Rattle.den_journal.proofs.Emptying.{found_same, read_leaves}
+use Rattle.den_journal.proofs.Emptying.{regions_same, read_leaves}
 use Rattle.den_journal.proofs.Full.{short_in_other}
 
 -- ---- files that cannot be read are emptied
 
 -- the regions of files that a load found corrupt
 pub unread : (rose told : Type 0) (family : Family) (files : Files) (e : GateError) (part : Part) (offset : ℕ) → e ≡ cause.DataCorruption part offset
-    → Because ⊥ rose (λ needed limit. ⊥) (λ at from. told → (at ≡ (slot_of family files).part) × (found_in family files ≡ Err from)) e → told → IsErr (found_in family files)
+    → Because ⊥ rose (λ needed limit. ⊥) (λ at from. told → (at ≡ (slot_of family files).part) × (family_regions family files ≡ Err from)) e → told → IsErr (family_regions family files)
 unread rose told family files e part offset is why tells =
-    let here = subst (λ (x : GateError). Because ⊥ rose (λ needed limit. ⊥) (λ at from. told → (at ≡ (slot_of family files).part) × (found_in family files ≡ Err from)) x) is why in
+    let here = subst (λ (x : GateError). Because ⊥ rose (λ needed limit. ⊥) (λ at from. told → (at ≡ (slot_of family files).part) × (family_regions family files ≡ Err from)) x) is why in
     subst IsErr (sym (here tells).1) refl
 
 module _ {D : Type 0} (disk : Ghosts D) (law : Law disk) (family : Family) (first one two : D) (tells : DiskTells disk first) (goes : GoesOn disk first one)
     (images : NoNewImages (disk.images first) (disk.images one) (disk.moment first) (disk.moment one)) (spares : SparesAll (disk.content first) (disk.content one))
-    (bad : IsErr (found_in family (disk.content first).reading)) (run : Leaves disk.content disk.moment disk.images (λ t files. KeepsOrEmpties family (disk.content one).reading files) one two) where
+    (bad : IsErr (family_regions family (disk.content first).reading)) (run : Leaves disk.content disk.moment disk.images (λ t files. KeepsOrEmpties family (disk.content one).reading files) one two) where
   abbrev entry : Files
   entry = (disk.content first).reading
 
@@ -59,7 +59,7 @@ module _ {D : Type 0} (disk : Ghosts D) (law : Law disk) (family : Family) (firs
       (λ same. inl (record {
         origin = entry;
         was = (law first entry tells).1 (λ q. itself (disk.content first).pending q (entry q));
-        same = same ∙ found_same family entry (disk.content one).reading (λ q is. spares.reading q);
+        same = same ∙ regions_same family entry (disk.content one).reading (λ q is. spares.reading q);
       }))
       (λ none. inr (bad, none)) h) run)
 
@@ -81,7 +81,7 @@ module _ {D : Type 0} (disk : Ghosts D) (law : Law disk) (family : Family) (word
   kept_words was all t files low high i =
       let reading = (disk.content old).reading in
       let read : HasWords family was reading = all reading ((law old reading tells).1 (λ q. itself (disk.content old).pending q (reading q))) in
-      ⊎_elim (λ one. inr one) (λ kept. ⊎_elim (λ before. inl (before.same ∙ all before.origin before.was)) (λ none. absurd (readable (placed 0 was) (found_in family reading) none.0 read)) kept)
+      ⊎_elim (λ one. inr one) (λ kept. ⊎_elim (λ before. inl (before.same ∙ all before.origin before.was)) (λ none. absurd (readable (placed 0 was) (family_regions family reading) none.0 read)) kept)
       (run.each t files low high i)
 
 -- ---- a family that was not loaded
@@ -138,7 +138,7 @@ is_one disk law gate word at tells rests =
     }
 
 -- the same regions are kept as well
-kept_same : (family : Family) (before : Files → Type 0) (was one other : Files) → found_in family other ≡ found_in family one → IsKept family before was one → IsKept family before was other
+kept_same : (family : Family) (before : Files → Type 0) (was one other : Files) → family_regions family other ≡ family_regions family one → IsKept family before was one → IsKept family before was other
 kept_same family before was one other same kept =
     ⊎_elim (λ h. inl (record { origin = h.origin; was = h.was; same = same ∙ h.same })) (λ none. inr (none.0, same ∙ none.1)) kept
 

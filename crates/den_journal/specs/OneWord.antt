@@ -28,16 +28,16 @@ one_of read (Ok (r ∷ s ∷ rs)) = None
 one_of read (Err offset) = None
 
 -- the regions of the slot that the family's head names, or the offset of the gate from which they cannot be read
-abbrev pub found_in : Family → Files → Result (List Region) ℕ
-found_in family files = regions (files (slot_of family files))
+abbrev pub family_regions : Family → Files → Result (List Region) ℕ
+family_regions family files = regions (files (slot_of family files))
 
 -- the value whose word is the one region of the slot that the family's head names
 abbrev pub one_in : {A : Type 0} → Family → (List ℕ → Option A) → Files → Option A
-one_in family read files = one_of read (found_in family files)
+one_in family read files = one_of read (family_regions family files)
 
 -- these words are the regions there
 abbrev pub HasWords : Family → List (List ℕ) → Files → Type 0
-HasWords family words files = found_in family files ≡ Ok (placed 0 words)
+HasWords family words files = family_regions family files ≡ Ok (placed 0 words)
 
 -- this word is the one region there
 abbrev pub HasOne : Family → List ℕ → Files → Type 0
@@ -47,22 +47,22 @@ HasOne family word files = HasWords family (word ∷ []) files
 pub record IsAsBefore (family : Family) (before : Files → Type 0) (files : Files) : Type 0 where
   pub origin : Files
   pub was : before origin
-  pub same : found_in family files ≡ found_in family origin
+  pub same : family_regions family files ≡ family_regions family origin
 
 -- the same regions as these files, or none
 abbrev pub KeepsOrEmpties : Family → Files → Files → Type 0
-KeepsOrEmpties family was files = (found_in family files ≡ found_in family was) ⊎ HasWords family [] files
+KeepsOrEmpties family was files = (family_regions family files ≡ family_regions family was) ⊎ HasWords family [] files
 
 -- the regions that a crash before might have left, or none, where those could not be read
 abbrev pub IsKept : Family → (before : Files → Type 0) → Files → Files → Type 0
-IsKept family before was files = IsAsBefore family before files ⊎ (IsErr (found_in family was) × HasWords family [] files)
+IsKept family before was files = IsAsBefore family before files ⊎ (IsErr (family_regions family was) × HasWords family [] files)
 
--- a gate file's refusal; files that cannot be read are no word, from their first byte on
-abbrev pub no_word : Family → GateError → Error
-no_word family gate.OutOfMemory = OutOfMemory
-no_word family gate.StorageIoError = StorageIoError
-no_word family (gate.Full needed limit) = DiskFull needed limit
-no_word family (gate.DataCorruption part offset) = DataCorruption (place_number (record { family = family; part = part })) 0
+-- a gate file's refusal, told of a family; files that cannot be read are no word from their first byte on
+abbrev pub refusal_at_start : Family → GateError → Error
+refusal_at_start family gate.OutOfMemory = OutOfMemory
+refusal_at_start family gate.StorageIoError = StorageIoError
+refusal_at_start family (gate.Full needed limit) = DiskFull needed limit
+refusal_at_start family (gate.DataCorruption part offset) = DataCorruption (place_number (record { family = family; part = part })) 0
 
 -- a disk that is full of one word: it is told the room for that word alone, which the slot that is not in use lacks
 pub record IsFullOfOne (told : Type 0) (family : Family) (files : Files) (size most needed limit : ℕ) : Type 0 where

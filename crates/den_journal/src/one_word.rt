@@ -7,7 +7,7 @@ ghost use Rattle.den_model.specs.Reading.{whole};
 ghost use Rattle.den_gate.specs.Causes.{Because};
 ghost use Rattle.den_gate.specs.Steps.{RunSparesOthers};
 ghost use Rattle.den_gate.specs.Gate.{IsAtRest, IsCurrent};
-ghost use Rattle.den_journal.specs.OneWord.{no_word, HasWords, IsKept, KeepsOrEmpties, ReadsOne, WritesOne};
+ghost use Rattle.den_journal.specs.OneWord.{refusal_at_start, HasWords, IsKept, KeepsOrEmpties, ReadsOne, WritesOne};
 
 use crate::family::{file_number, refusal};
 use den_codec::{Error, Word};
@@ -23,11 +23,11 @@ pub fn read_one<W: Word, D: Disk>(alloc: Global, disk: &mut D, family: Family) -
 {
     let gate = match GateFile::load(family, disk) {
         Ok(gate) => gate,
-        Err(error) => return Err(no_word(family, error)),
+        Err(error) => return Err(refusal_at_start(family, error)),
     };
     let list = match gate.regions(alloc, disk) {
         Ok(list) => list,
-        Err(error) => return Err(no_word(family, error)),
+        Err(error) => return Err(refusal_at_start(family, error)),
     };
     let place = file_number(family, gate.part());
     match list.as_slice() {
@@ -40,7 +40,7 @@ pub fn read_one<W: Word, D: Disk>(alloc: Global, disk: &mut D, family: Family) -
 }
 
 /// Makes a family's files one region, of this word, after a sync of all files; files that cannot be read are emptied first. A
-/// crash inside leaves the word that stood there, or this one. It takes no memory.
+/// crash inside leaves the word that stood there, or this one, or none where the files could not be read. It takes no memory.
 pub fn write_one<D: Disk>(disk: &mut D, family: Family, word: Blob) -> Result<(), Error>
     ensures writes { WritesOne D.Disk family word disk.old disk.new result }
 {
@@ -54,9 +54,9 @@ pub fn write_one<D: Disk>(disk: &mut D, family: Family, word: Blob) -> Result<()
     }
 }
 
-// A gate file's refusal; files that cannot be read are no word, from their first byte on.
-fn no_word(family: Family, error: GateError) -> Error
-    ensures { result ≡ no_word family error }
+// A gate file's refusal, as a store tells it; files that cannot be read are no word from their first byte on.
+fn refusal_at_start(family: Family, error: GateError) -> Error
+    ensures { result ≡ refusal_at_start family error }
 {
     match error {
         GateError::OutOfMemory => Error::OutOfMemory,
