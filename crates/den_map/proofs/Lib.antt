@@ -7,3 +7,4 @@ pub mod Paging
 pub mod Rebuilding
 pub mod Scanning
 pub mod Sizing
+pub mod Soundness

@@ -20,7 +20,7 @@ with_both s (p ∷ ps) qs = with_both (with_pair s p.key p.value p.term p.expiry
 
 -- ---- what is kept
 
-mark_kept : (s : MapState) (ps : List StoredPair) → (with_pairs s ps).mark ≡ s.mark
+pub mark_kept : (s : MapState) (ps : List StoredPair) → (with_pairs s ps).mark ≡ s.mark
 mark_kept s [] = refl
 mark_kept s (p ∷ ps) = mark_kept (with_pair s p.key p.value p.term p.expiry) ps
 

@@ -1,4 +1,4 @@
-//! The pairs of a map in pages, each small enough for one region of a file.
+//! The pairs of a map: all of them, and in pages, each small enough for one region of a file.
 ghost use Rattle.std.specs.Prelude.{◌≡◌, ◌-◌, ◌^◌, ◌++◌, min, List, length, option_copied, IfOk, OnOk};
 ghost use Rattle.den_model.specs.declared.region.StoredPair.{StoredPair};
 ghost use Rattle.den_map.specs.Held.{IsSound};
@@ -45,6 +45,19 @@ impl Map {
             term: held.term,
             expiry: self.expiry_at(key),
         })
+    }
+
+    /// All pairs in the order of their keys, each with the moment at which its key expires. The values are shared, not
+    /// copied.
+    pub fn stored_pairs(&self, alloc: Global) -> Result<Rows<StoredPair>, AllocError>
+        ensures sound { OnOk result (IsSound self.now) }
+        ensures pairs { IfOk result (λ pairs. pairs ≡ stored_pairs self.now) }
+    {
+        let mut pairs = Vec::with_capacity(alloc, self.len())?;
+        for (key, held) in self.pairs_behind(None) {
+            pairs.push(self.stored(alloc, key.as_slice(), held)?)?;
+        }
+        Ok(Rows::of(pairs))
     }
 
     /// The next page of the pairs, which are in the order of their keys: of those behind the key, and of all where there is
