@@ -1,0 +1,3 @@
+pub mod Expiring
+pub mod Giving
+pub mod Rising

@@ -1,0 +1,4 @@
+pub mod Laws
+pub mod Snapshots
+pub mod Spelled
+pub mod Words
