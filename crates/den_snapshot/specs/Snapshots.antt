@@ -1,5 +1,5 @@
 -- Snapshots: the pairs of a map with their expiries, under the mark that they are taken at.
-use Rattle.std.specs.Prelude.{ℕ, Bool, List, [], map}
+use Rattle.std.specs.Prelude.{ℕ, ◌||◌, Bool, false, List, [], ◌∷◌, map, nat_lt}
 use Rattle.den_model.specs.declared.log_id.LogId.{LogId}
 use Rattle.den_model.specs.declared.region.StoredPair.{StoredPair}
 use Rattle.den_model.specs.MapState.{MapState, with_pairs}
@@ -31,3 +31,8 @@ rises_above key pairs = table.rises_above key (by_key pairs)
 -- each key stands above the one before it
 abbrev pub rises : List StoredPair → Bool
 rises pairs = table.rises (by_key pairs)
+
+-- whether a pair has an expiry
+abbrev pub some_expires : List StoredPair → Bool
+some_expires [] = false
+some_expires (p ∷ ps) = nat_lt 0 p.expiry || some_expires ps

@@ -1,7 +1,6 @@
 -- The words of snapshots: what is written is read again, and what is read was written so.
-use Rattle.std.proofs.Common.{ℕ, List, ◌++◌, refl, append_assoc}
+use Rattle.std.proofs.Common.{refl, append_assoc}
 use Rattle.std.proofs.lemmas.List.{append-nil}
-use Rattle.den_model.specs.Spelling.{list_word, pair_word}
 use Rattle.den_model.proofs.Spells.{Spells, itself, spells_done_if, spells_then, spells_as, spells_u64, spells_list}
 use Rattle.den_model.proofs.LogSpells.{Known}
 use Rattle.den_model.proofs.StateSpells.{spells_pair}

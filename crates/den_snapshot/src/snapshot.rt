@@ -6,7 +6,7 @@ ghost use Rattle.den_model.specs.declared.log_id.LogId.{LogId};
 ghost use Rattle.den_model.specs.Words.{IsWordBy};
 ghost use Rattle.den_model.proofs.Spells.{word_found, word_read};
 ghost use Rattle.den_map.specs.Leases.{has_expiry};
-ghost use Rattle.den_snapshot.specs.Snapshots.{taken_of, map_of, rises, rises_above};
+ghost use Rattle.den_snapshot.specs.Snapshots.{taken_of, map_of, rises, rises_above, some_expires};
 ghost use Rattle.den_snapshot.specs.Spelled.{spells_snapshot};
 ghost use Rattle.den_snapshot.specs.Words.{snapshot_word, snapshot_at, FitsSnapshot};
 
@@ -58,6 +58,18 @@ fn rises_above(key: &Blob, pairs: &[StoredPair]) -> bool
     true
 }
 
+// Whether a pair has an expiry.
+fn some_expires(pairs: &[StoredPair]) -> bool
+    ensures { result ≡ some_expires pairs.now }
+{
+    for pair in pairs {
+        if 0 < pair.expiry {
+            return true;
+        }
+    }
+    false
+}
+
 impl Snapshot {
     /// The pairs under the mark where their keys rise, and nothing where they do not.
     pub fn new(mark: LogId, pairs: Rows<StoredPair>) -> Option<Snapshot>
@@ -105,12 +117,7 @@ impl Snapshot {
     pub fn holds_expiry(&self) -> bool
         ensures { (mark : LogId) → result ≡ has_expiry (map_of mark self.now) }
     {
-        for pair in self.pairs.as_slice() {
-            if 0 < pair.expiry {
-                return true;
-            }
-        }
-        false
+        some_expires(self.as_slice())
     }
 }
 

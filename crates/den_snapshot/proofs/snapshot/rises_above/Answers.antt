@@ -1,4 +1,4 @@
-use Rattle.std.proofs.Common.{◌≡◌, ℕ, ◌+◌, List, drop, true, false, ◌∙◌, sym, ap}
+use Rattle.std.proofs.Common.{◌≡◌, true, false, ◌∙◌, sym, ap}
 use Rattle.std.specs.Ordering.{is_lt}
 use Rattle.std.specs.declared.cmp.Ordering.{Ordering}
 use Rattle.den_model.specs.Table.{by_bytes}
