@@ -11,6 +11,8 @@ mod lease;
 #[cfg(test)]
 mod server;
 #[cfg(test)]
+mod snapshot;
+#[cfg(test)]
 mod state;
 #[cfg(test)]
 mod store;
