@@ -128,7 +128,8 @@ impl<F: Folded> Journal<F> {
         }
     }
 
-    /// Takes on another value, which the draft is to give. The regions in use give the old one until the draft is committed.
+    /// Takes on another value, which the draft is to give. The regions in use give the old one until the draft is
+    /// committed.
     pub fn draft_turn_to(&mut self, held: F)
         requires unready { self.old.failed ≡ true }
         ensures held { self.new.held ≡ held }
@@ -205,8 +206,8 @@ impl<F: Folded> Journal<F> {
         &self.held
     }
 
-    /// Whether it is of no use: while a draft is made, and for good once it gave up or a call that writes was refused, but
-    /// for want of memory before its write. It is opened anew then.
+    /// Whether it is of no use: while a draft is made, and for good once it gave up or a call that writes was refused,
+    /// but for want of memory before its write. It is opened anew then.
     pub fn is_failed(&self) -> bool
         ensures { (result ≡ false) ↔ (journal_shown F.Folded self.now).ready }
     {

@@ -3,7 +3,7 @@ use Rattle.std.proofs.Common.{◌≡◌, inl, inr, ⊎_elim, ◌∙◌, ℕ, ◌
 use Rattle.std.proofs.Math.Nat.{le_refl}
 use Rattle.den_disk.specs.declared.disk.Disk.{Ghosts as DiskGhosts}
 use Rattle.den_disk.specs.declared.place.Family.TheVariants.{State}
-use Rattle.den_disk.specs.Files.{Files, Kind}
+use Rattle.den_disk.specs.Files.{Kind}
 use Rattle.den_disk.specs.Goes.{Rose}
 use Rattle.den_model.specs.MapState.{MapState}
 use Rattle.den_codec.specs.declared.error.Error.{Error}

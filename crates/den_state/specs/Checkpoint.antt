@@ -68,7 +68,8 @@ module _ (fold : Ghosts StoredMap StateRegion) {D : Type 0} (disk : DiskGhosts D
     pub list : DiskTells disk old → IsCheckpoint m (payloads now.gate (disk.content new).reading)
     pub slot : now.gate.slot ≡ other_slot was.gate.slot
 
-  -- `stands` is the value that the regions in use give, which is another one than the map's where the map is to take its place.
+  -- `stands` is the value that the regions in use give. It is another one than the map's where the map is to take its
+  -- place.
   module _ (stands : fold.Value) (m : MapState) where
     -- A checkpoint in its midst: the draft is the mark and these pages, whose pairs are the first of the map's.
     pub record IsWriting (most : ℕ) (last : Option (List ℕ)) (j : Journal StoredMap) (at : D) : Type 0 where
@@ -94,8 +95,8 @@ module _ (fold : Ghosts StoredMap StateRegion) {D : Type 0} (disk : DiskGhosts D
       pub sound : IsSound m
 
     module _ (was now : Journal StoredMap) (old new : D) where
-      -- What calls on the draft leave, one or several, whatever comes of them: at each moment a crash leaves the value that
-      -- stands, or one of these. The map stays in memory.
+      -- What calls on the draft leave, one or several, whatever comes of them: at each moment a crash leaves the value
+      -- that stands, or one of these. The map stays in memory.
       pub record Steps {T : Type 0} (most : ℕ) (values : List fold.Value) (result : Result T Error) : Type 0 where
         pub drafts : Drafts fold disk was now old new (stands ∷ values) result
         pub full : IfErr result (IsFullFor (DiskTells disk old) fold.FAMILY (disk.content new).reading most (λ n. ⊥) (IsCheckpointSize m))
@@ -113,7 +114,7 @@ module _ (fold : Ghosts StoredMap StateRegion) {D : Type 0} (disk : DiskGhosts D
         pub steps : Steps most (fold.renewed (fold.value was.held) ∷ []) result
         pub done : OnOk result (IsRenewed m (fold.renewed (fold.value was.held)) most was now old new)
 
-  -- A call that puts another map in the map's place. A crash inside leaves the old map, or the other one as it is once it is
+  -- A call that puts another map in the map's place. A crash inside leaves the old map, or the other one as it is once
   -- written anew. A refusal leaves the journal of no more use, with one of the two in memory.
   pub record Replaces (held : StoredMap) (was now : Journal StoredMap) (old new : D) {T : Type 0} (result : Result T Error) : Type 0 where
     pub goes_on : GoesOn disk old new
