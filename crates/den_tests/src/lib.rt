@@ -9,6 +9,8 @@ mod gate;
 #[cfg(test)]
 mod lease;
 #[cfg(test)]
+mod one_word;
+#[cfg(test)]
 mod server;
 #[cfg(test)]
 mod snapshot;
