@@ -72,8 +72,8 @@ pub record IsFullOfOne (told : Type 0) (family : Family) (files : Files) (size m
   pub least : 2 ^ 43 ≤ limit
   pub short : told → IsTooShort (other_slot (slot_of family files)) (λ n. n ≡ size) needed files
 
--- why a word of this size is not written: a fault of the disk, where its count rose; a full disk; and, where the disk does not tell
--- its bytes, files that cannot be read once they were emptied
+-- why a word of this size is not written: a fault of the disk, where its count rose; a full disk; and, where the disk
+-- does not tell its bytes, files that cannot be read once they were emptied
 abbrev pub IsUnwritten : (rose told : Type 0) (family : Family) (files : Files) (size most : ℕ) → Error → Type 0
 IsUnwritten rose told family files size most StorageIoError = rose
 IsUnwritten rose told family files size most (DiskFull needed limit) = IsFullOfOne told family files size most needed limit
@@ -94,8 +94,8 @@ module _ {D : Type 0} (disk : Ghosts D) (family : Family) where
     pub slot : IsSettled (slot_of family (disk.content at).reading) (disk.content at)
     pub head : IsSettled (head_of family) (disk.content at)
 
-  -- A reading of the word that a family's files are, after a sync of all files. `DataCorruption` names the slot in use and its first
-  -- byte; it comes exactly where the files are not one region that is a word.
+  -- A reading of the word that a family's files are, after a sync of all files. `DataCorruption` names the slot in use
+  -- and its first byte; it comes exactly where the files are not one region that is a word.
   pub record ReadsOne {A : Type 0} (read : List ℕ → Option A) (old new : D) (result : Result A Error) : Type 0 where
     pub goes_on : GoesOn disk old new
     pub images : DiskTells disk old → NoNewImages (disk.images old) (disk.images new) (disk.moment old) (disk.moment new)
@@ -105,8 +105,9 @@ module _ {D : Type 0} (disk : Ghosts D) (family : Family) where
     pub refused : IfErr result (IsUnread (Faulted disk old new) (λ place offset. DiskTells disk old →
         (place ≡ place_number (slot_of family (disk.content old).reading)) × (offset ≡ 0) × (one_in family read (disk.content old).reading ≡ None)))
 
-  -- A writing of one word in the place of all that a family's files hold. A crash at each moment leaves the regions that a crash before might have
-  -- left, or this word, or none, where the regions could not be read. So where they were some words, they are those or this one.
+  -- A writing of one word in the place of all that a family's files hold. A crash at each moment leaves the regions that
+  -- a crash before might have left, or this word, or none, where the regions could not be read. So where they were some
+  -- words, they are those or this one.
   pub record WritesOne {T : Type 0} (word : List ℕ) (old new : D) (result : Result T Error) : Type 0 where
     pub goes_on : GoesOn disk old new
     pub images : DiskTells disk old → SparesImages family (disk.images old) (disk.images new) (disk.moment old) (disk.moment new)

@@ -16,8 +16,8 @@ use den_gate::{GateError, GateFile};
 use den_model::Blob;
 use std::alloc::Global;
 
-/// The value whose word is the one region of a family's files, after a sync of all files. `DataCorruption` comes exactly where
-/// they are not one region that is a word; it names the slot in use and offset 0.
+/// The value whose word is the one region of a family's files, after a sync of all files. `DataCorruption` comes exactly
+/// where they are not one region that is a word; it names the slot in use and offset 0.
 pub fn read_one<W: Word, D: Disk>(alloc: Global, disk: &mut D, family: Family) -> Result<W, Error>
     ensures reads { ReadsOne D.Disk family (whole W.at) disk.old disk.new result }
 {
@@ -39,8 +39,9 @@ pub fn read_one<W: Word, D: Disk>(alloc: Global, disk: &mut D, family: Family) -
     }
 }
 
-/// Makes a family's files one region, of this word, after a sync of all files; files that cannot be read are emptied first. A
-/// crash inside leaves the word that stood there, or this one, or none where the files could not be read. It takes no memory.
+/// Makes a family's files one region, of this word, after a sync of all files; files that cannot be read are emptied
+/// first. A crash inside leaves the word that stood there, or this one, or none where the files could not be read. It
+/// takes no memory.
 pub fn write_one<D: Disk>(disk: &mut D, family: Family, word: Blob) -> Result<(), Error>
     ensures writes { WritesOne D.Disk family word disk.old disk.new result }
 {
@@ -94,8 +95,8 @@ fn load_or_empty<D: Disk>(family: Family, disk: &mut D) -> Result<GateFile, Gate
     }
 }
 
-// Takes all bytes of a family's files. The slots go before the head, so that no crash leaves a head that names an old word in
-// the slot that was not in use.
+// Takes all bytes of a family's files. The slots go before the head, so that no crash leaves a head that names an old
+// word in the slot that was not in use.
 fn empty<D: Disk>(disk: &mut D, family: Family) -> Result<(), DiskFault>
     ensures kind { D.kind disk.new ≡ D.kind disk.old }
     ensures cause { HasCause (D.faults disk.old) (D.faults disk.new) (IsErr result) }
