@@ -5,15 +5,11 @@ import os
 import shutil
 
 from faults import garbage_in, link
-from serving import WRITTEN, as_nobody, blob, fail, files_of, frame, number, put, run, say, wants
+from serving import WRITTEN, as_nobody, blob, fail, files_of, frame, number, put, region, run, say, wants
 
 ROOM = 65536
 # Where the moment stands in a log region of one entry: behind the gate, the length, the opcode, the count, index and term.
 MOMENT = slice(1 + 8 + 1 + 8 + 8 + 8, 1 + 8 + 1 + 8 + 8 + 8 + 8)
-
-
-def region(payload):
-    return b"\x01" + blob(payload)
 
 
 def entry_regions(index, term, pair):

@@ -1,13 +1,37 @@
 """Folders and streams that do not take a call: the status, both lines, and what stands afterwards."""
 import os
 import resource
+import shutil
 import signal
+import socket
 import stat
 
-from serving import WRITTEN, as_nobody, bodies, fail, files_of, frame, owned, put, run, say, values, wants
+from serving import WRITTEN, as_nobody, blob, bodies, fail, files_of, frame, number, owned, put, read, region, run, say, values, wants
 
 PUTS, VALUE = 100, b"v" * 2000
 USAGE = b"den_server: usage: den_server FOLDER [--config FILE] [--listen PORT] [--drive N]\n"
+
+
+# A place in the log or the map: an index and the term 1. The moment 1000, and the pair a = b.
+FIRST, SECOND, MOMENT, PAIR = number(1) + number(1), number(2) + number(1), number(1000), blob(b"a") + blob(b"b")
+# Files that are refused, each alone in its folder: its name and bytes, the status and the line.
+REFUSED = [
+    # A region that runs past the end of its file.
+    ("log.a", b"\x01" + number(100), 8, b"den_server: data corruption in log.a at 0\n"),
+    # A region of no known kind.
+    ("state.a", region(b"\x09"), 8, b"den_server: data corruption in state.a at 0\n"),
+    # One record: a put of a = b with an expiry of 2000.
+    ("state.a", region(b"\x03" + number(1) + FIRST + b"\x01" + PAIR + number(2000)), 9, b"den_server: lease is not enabled\n"),
+    # Two entries: a put of a = b with a time to live of 1, and a delete of a.
+    (
+        "log.a",
+        region(b"\x01" + number(2) + FIRST + MOMENT + b"\x01" + PAIR + b"\x01" + number(1) + SECOND + MOMENT + b"\x02" + blob(b"a")),
+        9,
+        b"den_server: lease is not enabled\n",
+    ),
+    # The last term, without a vote.
+    ("meta.a", region(number(2**64 - 1) + b"\0"), 10, b"den_server: term or index exhausted\n"),
+]
 
 
 def storage(cause):
@@ -33,6 +57,20 @@ def garbage(program, room):
     if files_of(folder) != before:
         fail("a folder with garbage was changed")
     say("garbage in log.a is refused, and the folder stays as it is")
+
+
+def refused(program, room):
+    folder = os.path.join(room, "refused")
+    for name, data, status, line in REFUSED:
+        os.mkdir(folder)
+        with open(os.path.join(folder, name), "wb") as file:
+            file.write(data)
+        owned(folder)
+        wants(f"{data.hex()} in {name}", run(program, folder, [put(b"a", b"b"), read(b"a")]), status, line)
+        if files_of(folder) != {name: data}:
+            fail(f"a folder with {data.hex()} in {name} was changed")
+        shutil.rmtree(folder)
+    say(f"{len(REFUSED)} files that are refused, each with its status and its line, and the folder stays as it is")
 
 
 def unwritable(program, room):
@@ -121,8 +159,17 @@ def modes(program, room):
     say("folders are made with mode 0700 and files with 0600")
 
 
+def broken(data):
+    """A socket that gives these bytes and then fails, since its other end was closed with a byte that it had not read."""
+    ours, theirs = socket.socketpair()
+    theirs.sendall(data)
+    ours.sendall(b"x")
+    theirs.close()
+    return ours
+
+
 def streams(program, room):
-    """Standard input that cannot be read, and output that cannot be written."""
+    """Standard input that cannot be read, also behind a whole frame, and output that cannot be written."""
     folder = os.path.join(room, "streams")
     with open("/dev/full", "wb") as device:
         got = run(program, folder, [put(b"a", b"b")], stdout=device)
@@ -133,4 +180,10 @@ def streams(program, room):
     wants("an input that is a folder", got, 6, link(b"standard input: Is a directory (os error 21)"))
     if values(program, folder, [b"a"]) != [b"b"]:
         fail("a put before a link fault is lost")
-    say("streams that fail are link faults")
+    with broken(put(b"a", b"c") + read(b"a")[:5]) as stream:
+        got = run(program, folder, [], input=None, stdin=stream)
+    lines = link(b"standard input: Connection reset by peer (os error 104)")
+    wants("an input that fails behind a put", got, 6, lines, frame(WRITTEN))
+    if values(program, folder, [b"a"]) != [b"c"]:
+        fail("a put before a fault of the input is lost")
+    say("streams that fail are link faults, and what was answered before is kept")

@@ -33,6 +33,7 @@ def try_all(program, room):
     say(f"seed {seed}")
     draw = random.Random(seed)
     faults.garbage(program, room)
+    faults.refused(program, room)
     faults.unwritable(program, room)
     faults.full(program, room)
     faults.file_in_place(program, room)

@@ -21,6 +21,10 @@ def frame(body):
     return number(len(body)) + body
 
 
+def region(payload):
+    return b"\x01" + blob(payload)
+
+
 def put(key, value):
     return frame(b"\x01\0\0\0\x01\x01" + blob(key) + blob(value) + number(0))
 
