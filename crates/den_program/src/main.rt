@@ -9,8 +9,6 @@
 
 mod serving;
 mod status;
-#[cfg(test)]
-mod tests;
 mod words;
 
 use den_disk::{ListClock, MemDisk, MemLink, MemSource};
