@@ -1,3 +1,4 @@
+pub mod Again
 pub mod Expiring
 pub mod Giving
 pub mod Rising

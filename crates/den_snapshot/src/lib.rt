@@ -9,8 +9,9 @@
 //! - `Word` writes it and reads it (docs/FORMATS.md has the bytes). What is read is refused where its keys do not rise.
 //! - `Snapshot::holds_expiry` says beforehand whether its map has a key that expires.
 //!
-//! Two laws are contracts of functions that do nothing: bytes are read as a snapshot exactly where they are its word
-//! (`snapshot_words_are_read`), and a snapshot of a map gives the map (`snapshots_give_the_map`).
+//! Three laws are contracts of functions that do nothing: bytes are read as a snapshot exactly where they are its word
+//! (`snapshot_words_are_read`), a snapshot of a map gives the map (`snapshots_give_the_map`), and a snapshot is that of the
+//! map which it gives (`maps_give_the_snapshot`).
 //!
 //!     let mut bytes = Vec::new(alloc);
 //!     Snapshot::of_map(alloc, &map, map.mark())?.write(&mut bytes)?;
@@ -22,5 +23,5 @@
 mod laws;
 mod snapshot;
 
-pub use laws::{snapshot_words_are_read, snapshots_give_the_map};
+pub use laws::{maps_give_the_snapshot, snapshot_words_are_read, snapshots_give_the_map};
 pub use snapshot::Snapshot;
