@@ -80,7 +80,8 @@ impl Map {
         Ok(())
     }
 
-    /// Takes on pairs in order, each in place of what its key has. Where memory is wanting it may have taken on some of them.
+    /// Takes on pairs in order, each in place of what its key has. Where memory is wanting it may have taken on some of
+    /// them.
     pub fn add_pairs(&mut self, alloc: Global, pairs: &[StoredPair]) -> Result<(), AllocError>
         ensures { OnOk result (self.new ≡ with_pairs self.old pairs.now) }
     {

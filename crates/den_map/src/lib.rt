@@ -7,8 +7,8 @@
 //!
 //! - `Map::add` folds one more region of a journal, where it is lawful there; `Map::follow` carries out one that is known to be.
 //! - `Map::journal` makes the records, the results and the region of a chunk, and leaves the map as it is.
-//! - `Map::page` gives the pairs one page after the other, as a checkpoint holds them; `Map::stored_pairs` gives all of them,
-//!   and `Map::add_pairs` takes pairs on.
+//! - `Map::page` gives the pairs one page after the other, as a checkpoint holds them; `Map::stored_pairs` gives all of
+//!   them, and `Map::add_pairs` takes pairs on.
 //! - `Map::clean` carries out a cleanup; `Map::has_due` and `Map::due_keys` say beforehand what it removes.
 #![tactic(auto)]
 

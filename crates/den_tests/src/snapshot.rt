@@ -9,7 +9,8 @@ const FIRST: LogId = LogId { index: 1, term: 1 };
 
 const LATER: LogId = LogId { index: 7, term: 2 };
 
-// The mark 1 of term 1: with no pair; with a = b of term 1 without an expiry; and with j = "" of term 3 until 2000 beside it.
+// The mark 1 of term 1: with no pair; with a = b of term 1 without an expiry; and with j = "" of term 3 until 2000
+// beside it.
 const NO_PAIR: &[u8] = b"\0\0\0\0\0\0\0\x01\0\0\0\0\0\0\0\x01\0\0\0\0\0\0\0\0";
 
 const ONE_PAIR: &[u8] =
@@ -18,8 +19,8 @@ const ONE_PAIR: &[u8] =
 const TWO_PAIRS: &[u8] =
     b"\0\0\0\0\0\0\0\x01\0\0\0\0\0\0\0\x01\0\0\0\0\0\0\0\x02\0\0\0\0\0\0\0\x01a\0\0\0\0\0\0\0\x01b\0\0\0\0\0\0\0\x01\0\0\0\0\0\0\0\0\0\0\0\0\0\0\0\x01j\0\0\0\0\0\0\0\0\0\0\0\0\0\0\0\x03\0\0\0\0\0\0\x07\xd0";
 
-// Bytes that are no snapshot: none, a mark alone, a count without a pair, a cut pair, a byte more, a key twice, and keys that
-// fall.
+// Bytes that are no snapshot: none, a mark alone, a count without a pair, a cut pair, a byte more, a key twice, and keys
+// that fall.
 const NO_SNAPSHOTS: [&[u8]; 7] = [
     b"",
     b"\0\0\0\0\0\0\0\x01\0\0\0\0\0\0\0\x01",
@@ -56,8 +57,8 @@ fn is_taken(map: &Map, alloc: Global, word: &[u8]) -> Result<bool, Error> {
     Ok(bytes.as_slice() == word && snapshot.size() == word.len() as u64)
 }
 
-// How many pairs and expiries the map of these bytes has, under another mark. None where they are no snapshot, or the map is
-// not the one that they are of.
+// How many pairs and expiries the map of these bytes has, under another mark. None where they are no snapshot, or the
+// map is not the one that they are of.
 fn counts(alloc: Global, word: &[u8]) -> Result<Option<(usize, usize)>, Error> {
     let Some(snapshot) = Snapshot::read(alloc, word)? else {
         return Ok(None);
