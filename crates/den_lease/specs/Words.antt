@@ -14,8 +14,8 @@ Lease = List ℕ × ℕ
 abbrev pub lease_word : Lease → List ℕ
 lease_word l = blob_word l.0 ++ u64_word l.1
 
-abbrev pub snapshot_word : Table ℕ → List ℕ
-snapshot_word t = list_word lease_word t
+abbrev pub leases_word : Table ℕ → List ℕ
+leases_word t = list_word lease_word t
 
 unfoldable pub lease_at : Reader Lease
 lease_at = do
@@ -23,18 +23,18 @@ lease_at = do
   expiry ← number_at w64
   done_if (nat_le 1 expiry) (key, expiry)
 
-unfoldable pub snapshot_at : Reader (Table ℕ)
-snapshot_at = do
+unfoldable pub leases_at : Reader (Table ℕ)
+leases_at = do
   t ← list_at lease_at
   done_if (rises t) t
 
 -- the table whose word the bytes are, all of them
-unfoldable pub snapshot_in : List ℕ → Option (Table ℕ)
-snapshot_in = whole snapshot_at
+unfoldable pub leases_in : List ℕ → Option (Table ℕ)
+leases_in = whole leases_at
 
 abbrev pub FitsLease : Lease → Type 0
 FitsLease l = (1 ≤ l.1) × FitsBlob l.0 × FitsU64 l.1
 
 -- its keys rise, and no expiry is 0
-abbrev pub FitsSnapshot : Table ℕ → Type 0
-FitsSnapshot t = FitsList FitsLease t × (rises t ≡ true)
+abbrev pub FitsLeases : Table ℕ → Type 0
+FitsLeases t = FitsList FitsLease t × (rises t ≡ true)

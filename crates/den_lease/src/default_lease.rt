@@ -6,7 +6,7 @@ ghost use Rattle.den_model.specs.Apply.{kept_expiries, seconds_after};
 ghost use Rattle.den_model.specs.Table.{at, by_bytes, set, unset};
 ghost use Rattle.den_lease.specs.Due.{due_keys};
 ghost use Rattle.den_lease.specs.Refusals.{IsReloadRefusal};
-ghost use Rattle.den_lease.specs.Words.{snapshot_in};
+ghost use Rattle.den_lease.specs.Words.{leases_in};
 
 use crate::{Expiries, Lease, LeaseSnapshot};
 use den_codec::{Blob, Error, LeaseConfig, Positive, Rows, Word};
@@ -44,7 +44,7 @@ impl DefaultLease {
         bytes: &[u8],
         config: LeaseConfig,
     ) -> Result<DefaultLease, Error>
-        ensures table { IfOk result (λ lease. lease.map ≡ unwrap_or (snapshot_in bytes.now) []) }
+        ensures table { IfOk result (λ lease. lease.map ≡ unwrap_or (leases_in bytes.now) []) }
         ensures used { IfOk result (λ lease. lease.used ≡ nat_lt 0 (length lease.map)) }
         ensures config { IfOk result (λ lease. lease.config ≡ config) }
         ensures refused { IfErr result (λ e. e ≡ OutOfMemory) }
@@ -157,12 +157,12 @@ impl Lease for DefaultLease {
         Ok(word)
     }
 
-    #[tactic(auto, unfolding(crate::specs::Words::snapshot_in))]
+    #[tactic(auto, unfolding(crate::specs::Words::leases_in))]
     fn reload(&mut self, bytes: &[u8]) -> Result<(), Error>
-        ensures table { OnOk result (snapshot_in bytes.now ≡ Some self.new.map) }
+        ensures table { OnOk result (leases_in bytes.now ≡ Some self.new.map) }
         ensures used { OnOk result (self.new.used ≡ (self.old.used || nat_lt 0 (length self.new.map))) }
         ensures config { self.new.config ≡ self.old.config }
-        ensures refused { IfErr result (λ e. IsReloadRefusal (snapshot_in bytes.now) e × (self.new ≡ self.old)) }
+        ensures refused { IfErr result (λ e. IsReloadRefusal (leases_in bytes.now) e × (self.new ≡ self.old)) }
     {
         let Some(snapshot) = LeaseSnapshot::read(self.alloc, bytes)? else {
             return Err(Error::StateMachineError);

@@ -6,7 +6,7 @@ ghost use Rattle.den_model.specs.Table.{Table, by_bytes, set, unset};
 ghost use Rattle.den_model.specs.Words.{IsWordBy};
 ghost use Rattle.den_lease.specs.Due.{due_keys, has_due};
 ghost use Rattle.std.specs.List.Sorted.{IsStrictlySortedBy};
-ghost use Rattle.den_lease.specs.Words.{snapshot_word, snapshot_in, FitsSnapshot};
+ghost use Rattle.den_lease.specs.Words.{leases_word, leases_in, FitsLeases};
 ghost use Rattle.den_lease.specs.Refusals.{IsReloadRefusal};
 
 use den_codec::{Blob, Error, Rows};
@@ -76,13 +76,13 @@ pub trait Lease: Drop {
 
     /// The word of the keys and their expiries. It is refused for want of memory alone.
     fn to_snapshot(&self) -> Result<Vec<u8>, Error>
-        ensures word { IfOk result (λ word. IsWordBy FitsSnapshot snapshot_word word.items (table self.now)) }
+        ensures word { IfOk result (λ word. IsWordBy FitsLeases leases_word word.items (table self.now)) }
         ensures refused { IfErr result (λ e. e ≡ OutOfMemory) };
 
     /// The keys and expiries of a word, in place of those held. Bytes that are no word are refused as
     /// `StateMachineError`, and others for want of memory alone; nothing changes then.
     fn reload(&mut self, bytes: &[u8]) -> Result<(), Error>
-        ensures table { OnOk result (snapshot_in bytes.now ≡ Some (table self.new)) }
+        ensures table { OnOk result (leases_in bytes.now ≡ Some (table self.new)) }
         ensures used { OnOk result (used self.new ≡ (used self.old || nat_lt 0 (length (table self.new)))) }
-        ensures refused { IfErr result (λ e. IsReloadRefusal (snapshot_in bytes.now) e × (table self.new ≡ table self.old) × (used self.new ≡ used self.old)) };
+        ensures refused { IfErr result (λ e. IsReloadRefusal (leases_in bytes.now) e × (table self.new ≡ table self.old) × (used self.new ≡ used self.old)) };
 }

@@ -11,6 +11,6 @@ mod snapshot;
 
 pub use default_lease::DefaultLease;
 pub use expiries::Expiries;
-pub use laws::snapshot_words_are_read;
+pub use laws::lease_words_are_read;
 pub use lease::Lease;
 pub use snapshot::{LeaseRow, LeaseSnapshot};

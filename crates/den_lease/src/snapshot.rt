@@ -5,8 +5,8 @@ ghost use Rattle.std.specs.Prelude.{◌≡◌, ℕ, List, true, refl, if◌then�
 ghost use Rattle.den_model.specs.Words.{IsWordBy};
 ghost use Rattle.den_model.proofs.Spells.{word_found, word_read};
 ghost use Rattle.den_lease.specs.Rising.{rises, rises_above};
-ghost use Rattle.den_lease.specs.Words.{lease_word, snapshot_word, lease_at, snapshot_at, FitsLease, FitsSnapshot};
-ghost use Rattle.den_lease.specs.Laws.{spells_lease, spells_snapshot};
+ghost use Rattle.den_lease.specs.Words.{lease_word, leases_word, lease_at, leases_at, FitsLease, FitsLeases};
+ghost use Rattle.den_lease.specs.Laws.{spells_lease, spells_leases};
 
 use den_codec::{ReadError, Word, list_size, put_list, take_list};
 use den_model::{Blob, Positive, Rows};
@@ -141,17 +141,17 @@ impl Word for LeaseRow {
 }
 
 impl Word for LeaseSnapshot {
-    ghost word = { snapshot_word };
+    ghost word = { leases_word };
 
-    ghost at = { snapshot_at };
+    ghost at = { leases_at };
 
-    ghost fits = { FitsSnapshot };
+    ghost fits = { FitsLeases };
 
-    ghost is_word = { IsWordBy FitsSnapshot snapshot_word };
+    ghost is_word = { IsWordBy FitsLeases leases_word };
 
-    ghost found = { word_found spells_snapshot };
+    ghost found = { word_found spells_leases };
 
-    ghost again = { word_read spells_snapshot };
+    ghost again = { word_read spells_leases };
 
     ghost written = { λ x h. (refl, h) };
 
@@ -159,7 +159,7 @@ impl Word for LeaseSnapshot {
         put_list(out, self.as_slice())
     }
 
-    #[tactic(auto, unfolding(crate::specs::Words::snapshot_at))]
+    #[tactic(auto, unfolding(crate::specs::Words::leases_at))]
     fn take(alloc: Global, bytes: &[u8]) -> Result<(LeaseSnapshot, &[u8]), ReadError> {
         let (rows, rest) = take_list(alloc, bytes)?;
         match LeaseSnapshot::new(rows) {
