@@ -9,7 +9,7 @@ use Rattle.den_disk.proofs.Images.{agree, agree_one, put_image, take-fit, fit_on
 use Rattle.den_model.specs.Spelling.{u64_word}
 use Rattle.den_gate.specs.Slot.{Holds, Staged}
 use Rattle.den_gate.specs.Steps.{Keeps, KeepsOrAdds, IsOpen, IsStaged, IsCalm, IsPoised}
-use Rattle.den_gate.proofs.Written.{holds_regions, staged_open, staged_shut, staged_long, staged_written}
+use Rattle.den_gate.proofs.Written.{holds_regions, staged_open, staged_shut, staged_long, staged_once, staged_written}
 use Rattle.den_gate.proofs.Beside.{spares_start, spares_written, spares_torn, spares_resized, spares_synced, spares_from, cut_pending}
 
 holds_long : (ps : List (List ℕ)) (end : ℕ) (file : List ℕ) → Holds ps end file → end ≤ length file
@@ -159,6 +159,14 @@ staged_after slot ps p end c o room small =
       staged = subst (λ (l : List ℕ). Staged ps p end l) (sym reads) (staged_written ps p end (c.reading slot) o.holds room small);
       settled = λ k h. absurd h;
     }
+
+-- the same, by one write
+pub staged_at_once : (slot : Place) (ps : List (List ℕ)) (p bytes : List ℕ) (end : ℕ) (c : Content) → IsOpen slot ps end c → end + 10 + length p ≤ length (c.reading slot) → end + 9 + length p < 2 ^ 64
+    → bytes ≡ u64_word (length p) ++ p ++ 0 ∷ [] → length bytes ≡ 9 + length p → IsStaged slot ps p end (synced (written slot (end + 1) bytes c))
+staged_at_once slot ps p bytes end c o room small is size = record {
+  staged = subst (λ (l : List ℕ). Staged ps p end l) (sym (change-here slot (put_at (end + 1) bytes) c.reading)) (staged_once ps p bytes end (c.reading slot) o.holds room small is size);
+  settled = λ k h. absurd h;
+}
 
 pub open_resized : (slot : Place) (ps : List (List ℕ)) (end : ℕ) (c : Content) (len : ℕ) → end ≤ len → IsOpen slot ps end c → IsOpen slot ps end (resized slot len c)
 open_resized slot ps end c len fits o =

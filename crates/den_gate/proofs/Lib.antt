@@ -13,3 +13,4 @@ pub mod Drafts
 pub mod Refusals
 pub mod Seen
 pub mod NextRegion
+mod Rows

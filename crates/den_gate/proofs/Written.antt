@@ -24,6 +24,11 @@ pub word-is : (n : ℕ) (bytes : List ℕ) → bytes ≡ to_be_bytes w64 n → b
 unfolding u64_word
 word-is n bytes e = e
 
+-- how long that is which stands behind a region's gate
+pub size_behind : (p bytes : List ℕ) → bytes ≡ u64_word (length p) ++ p ++ 0 ∷ [] → length bytes ≡ 9 + length p
+size_behind p bytes is =
+    omega (arith, ap length is, length-append (u64_word (length p) ++ p) (0 ∷ []), length-append (u64_word (length p)) p, length-word (length p))
+
 -- an open region in front of regions
 pub regions_size : (p : List ℕ) (ps : List (List ℕ)) → length (open_regions (p ∷ ps)) ≡ 9 + length p + length (open_regions ps)
 regions_size p ps = omega (arith, length-append (open_region p) (open_regions ps), length-append (u64_word (length p)) p, length-word (length p))
@@ -131,6 +136,25 @@ staged_written ps p end file h room small =
       small = small;
       behind = sym (drop-take (end + 1) (9 + n) three) ∙ ap (λ (k : ℕ). drop (end + 1) (take k three)) along ∙ ap (drop (end + 1)) (take3 ∙ apart)
           ∙ drop_at (take (end + 1) file) ((field ++ p) ++ 0 ∷ []) (end + 1) long;
+    }
+
+-- one write of what stands behind a closed gate
+pub staged_once : (ps : List (List ℕ)) (p bytes : List ℕ) (end : ℕ) (file : List ℕ) → Holds ps end file → end + 10 + length p ≤ length file → end + 9 + length p < 2 ^ 64
+    → bytes ≡ u64_word (length p) ++ p ++ 0 ∷ [] → length bytes ≡ 9 + length p → Staged ps p end (put_at (end + 1) bytes file)
+staged_once ps p bytes end file h room small is size =
+    let n = length p in
+    let put = put_at (end + 1) bytes file in
+    let room1 : end + 1 + length bytes ≤ length file = omega (arith, size) in
+    let all : take (end + 1 + length bytes) put ≡ take (end + 1) file ++ bytes = take-put_at (end + 1) bytes file room1 in
+    let long : length (take (end + 1) file) ≡ end + 1 = omega (arith, length-take (end + 1) file) in
+    let along : end + 1 + (9 + n) ≡ end + 1 + length bytes = omega (arith, size) in
+    record {
+      front = sym (take-take end (end + 1 + length bytes) put (omega arith)) ∙ ap (take end) all ∙ take-append-le end (take (end + 1) file) bytes (omega (arith, long))
+          ∙ take-take end (end + 1) file (omega arith) ∙ h.front;
+      size = h.size;
+      small = small;
+      behind = sym (drop-take (end + 1) (9 + n) put) ∙ ap (λ (k : ℕ). drop (end + 1) (take k put)) along ∙ ap (drop (end + 1)) all
+          ∙ drop_at (take (end + 1) file) bytes (end + 1) long ∙ is;
     }
 
 -- at the end of what begins the file

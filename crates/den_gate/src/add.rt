@@ -1,8 +1,9 @@
 // A payload more. A region counts if its gate is open (1). A closed gate stands behind the last one, on the disk before
 // anything is written behind it.
-ghost use Rattle.std.specs.Prelude.{◌≡◌, ◌+◌, ◌≤◌, ◌<◌, ◌^◌, ℕ, List, [], ◌∷◌, ◌++◌, IsTrue, IsErr, IfErr, OnOk, length};
+ghost use Rattle.std.specs.Prelude.{◌≡◌, ◌+◌, ◌≤◌, ◌<◌, ◌^◌, ℕ, List, [], ◌∷◌, ◌++◌, IsTrue, IsErr, IfErr, OnOk, length, take};
 ghost use Rattle.den_disk.specs.Crash.{Stays};
 ghost use Rattle.den_disk.specs.Goes.{HasCause, Rose};
+ghost use Rattle.den_model.specs.Spelling.{u64_word};
 ghost use Rattle.den_gate.specs.Causes.{Because};
 ghost use Rattle.den_gate.specs.Slot.{SlotGrows, IsShort, payloads_of, room_for};
 ghost use Rattle.den_gate.specs.Steps.{IsOpen, IsStaged, RunKeeps, RunKeepsOrAdds};
@@ -10,6 +11,12 @@ ghost use Rattle.den_gate.specs.Steps.{IsOpen, IsStaged, RunKeeps, RunKeepsOrAdd
 use crate::GateError;
 use crate::room::make_room;
 use den_disk::{Disk, DiskFault, Place};
+
+// What is put together in memory is at most so long.
+const ROW: usize = 256;
+
+// A payload of at most so many bytes is put together with what stands around it, and written by one call.
+const SHORT: usize = ROW - 9;
 
 // Adds a payload to the regions that end there.
 pub fn add<D: Disk>(disk: &mut D, slot: Place, end: u64, payload: &[u8]) -> Result<(), GateError>
@@ -38,6 +45,60 @@ pub fn add<D: Disk>(disk: &mut D, slot: Place, end: u64, payload: &[u8]) -> Resu
 
 // Writes a region but for its gate, and a closed gate behind it.
 fn stage<D: Disk>(disk: &mut D, slot: Place, end: u64, payload: &[u8]) -> Result<(), DiskFault>
+    requires end { end + 10 + length payload.now ≤ 2 ^ 62 }
+    requires room { IsTrue (D.kind disk.old).tells → end + 10 + length payload.now ≤ length ((D.content disk.old).reading slot) }
+    ensures kind { D.kind disk.new ≡ D.kind disk.old }
+    ensures staged { IsTrue (D.kind disk.old).tells → (list : List (List ℕ)) → IsOpen slot list end (D.content disk.old) → OnOk result (
+        IsStaged slot list payload.now end (D.content disk.new)) }
+    ensures long { IsTrue (D.kind disk.old).tells → OnOk result (length ((D.content disk.new).reading slot) ≡ length ((D.content disk.old).reading slot)) }
+    ensures run { IsTrue (D.kind disk.old).tells → (list : List (List ℕ)) → IsOpen slot list end (D.content disk.old)
+        → RunKeeps D.content D.moment D.images slot list disk.old disk.new }
+    ensures cause { HasCause (D.faults disk.old) (D.faults disk.new) (IsErr result) }
+{
+    if payload.len() <= SHORT {
+        stage_short(disk, slot, end, payload)
+    } else {
+        stage_long(disk, slot, end, payload)
+    }
+}
+
+// The same of a short payload, by one write.
+fn stage_short<D: Disk>(
+    disk: &mut D,
+    slot: Place,
+    end: u64,
+    payload: &[u8],
+) -> Result<(), DiskFault>
+    requires short { length payload.now ≤ 247 }
+    requires end { end + 10 + length payload.now ≤ 2 ^ 62 }
+    requires room { IsTrue (D.kind disk.old).tells → end + 10 + length payload.now ≤ length ((D.content disk.old).reading slot) }
+    ensures kind { D.kind disk.new ≡ D.kind disk.old }
+    ensures staged { IsTrue (D.kind disk.old).tells → (list : List (List ℕ)) → IsOpen slot list end (D.content disk.old) → OnOk result (
+        IsStaged slot list payload.now end (D.content disk.new)) }
+    ensures long { IsTrue (D.kind disk.old).tells → OnOk result (length ((D.content disk.new).reading slot) ≡ length ((D.content disk.old).reading slot)) }
+    ensures run { IsTrue (D.kind disk.old).tells → (list : List (List ℕ)) → IsOpen slot list end (D.content disk.old)
+        → RunKeeps D.content D.moment D.images slot list disk.old disk.new }
+    ensures cause { HasCause (D.faults disk.old) (D.faults disk.new) (IsErr result) }
+{
+    let row = behind_gate(payload);
+    disk.write_at(slot, end + 1, &row[..9 + payload.len()])?;
+    disk.sync()
+}
+
+// What stands behind a region's gate, in front of zeros: the payload's length, the payload, and a closed gate.
+fn behind_gate(payload: &[u8]) -> [u8; ROW]
+    requires { length payload.now ≤ 247 }
+    ensures { take (9 + length payload.now) result ≡ u64_word (length payload.now) ++ payload.now ++ 0 ∷ [] }
+{
+    let size = payload.len();
+    let mut row = [0; ROW];
+    row[..8].copy_from_slice(&(size as u64).to_be_bytes());
+    row[8..8 + size].copy_from_slice(payload);
+    row
+}
+
+// The same of any payload, by three writes.
+fn stage_long<D: Disk>(disk: &mut D, slot: Place, end: u64, payload: &[u8]) -> Result<(), DiskFault>
     requires end { end + 10 + length payload.now ≤ 2 ^ 62 }
     requires room { IsTrue (D.kind disk.old).tells → end + 10 + length payload.now ≤ length ((D.content disk.old).reading slot) }
     ensures kind { D.kind disk.new ≡ D.kind disk.old }

@@ -23,7 +23,7 @@ const OTHER: Place = Place {
 // The calls of a load where there is no file, and of an append to an empty slot.
 const LOAD_CALLS: u64 = 3;
 
-const APPEND_CALLS: u64 = 8;
+const APPEND_CALLS: u64 = 6;
 
 fn append_three<D: Disk>(disk: &mut D) -> Result<(), GateError> {
     let mut gate = GateFile::load(Family::Log, disk)?;
@@ -115,7 +115,7 @@ fn fails_at_each_call(rt: HostRuntime) -> Result<(), Fail> {
         disk.fuse(LOAD_CALLS + calls);
         assert!(rt; fails_to_append(&mut disk)?);
         disk.fuse(100);
-        assert!(rt; finds(rt.alloc(), &mut disk, Part::A, usize::from(calls == 7))?);
+        assert!(rt; finds(rt.alloc(), &mut disk, Part::A, usize::from(calls == 5))?);
     }
     Ok(())
 }

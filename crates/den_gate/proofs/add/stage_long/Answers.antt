@@ -7,7 +7,7 @@ use Rattle.den_gate.specs.Steps.{IsStaged}
 use Rattle.den_gate.proofs.Written.{length-word, word-is}
 use Rattle.den_gate.proofs.Calm.{staged_after}
 use Rattle.den_gate.proofs.Runs.{ran_start, ran_writes, ran_syncs, ran_keeps}
-use Rattle.den_gate.proofs.add.stage.Goals as goal
+use Rattle.den_gate.proofs.add.stage_long.Goals as goal
 
 pub returns-in_err-write_at-clause-run : goal.returns-in_err-write_at-clause-run
 returns-in_err-write_at-clause-run g c = λ tells ps open_.
