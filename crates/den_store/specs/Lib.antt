@@ -8,3 +8,4 @@ pub mod Held
 pub mod LastState
 pub mod Lookup
 pub mod Order
+pub mod Regions

@@ -14,6 +14,8 @@
 //!    `purge_change` and `state_change` (specs/Changes.antt) is empty.
 //! 4. Each entry that is held fits its word, so that the log can be written anew: the ghost field `fits` of `HeldLog`.
 //! 5. After a refusal of the disk a store is of no more use, and is opened anew: `failed` of `IsRefused` (den_journal).
+//! 6. A store in files says what a call leaves of the family's slots, which the traits do not speak of: `region` and
+//!    `regions` of its calls, by `AddsRegion` and `WritesAnew` (specs/Regions.antt).
 //!
 //!     let mut log = FileLogStore::new(alloc, &mut disk)?;
 //!     log.persist_entries(&mut disk, entries.as_slice())?;

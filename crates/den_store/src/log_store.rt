@@ -1,14 +1,20 @@
 //! The log store over a journal.
-ghost use Rattle.std.specs.Prelude.{◌≡◌, ◌≤◌, true, IsTrue, IfOk};
+ghost use Rattle.std.specs.Prelude.{◌≡◌, ◌≤◌, ◌<◌, ◌+◌, true, length, [], IsTrue, IfSome, IsOk, IfOk, IfErr, OnOk};
 ghost use Rattle.den_disk.specs.declared.place.Family.TheVariants.{Log as log_family};
 ghost use Rattle.den_disk.specs.Place.{place_number};
+ghost use Rattle.den_model.specs.Entries.{rise_from};
 ghost use Rattle.den_model.specs.Image.{slot_of, log_in};
+ghost use Rattle.den_model.specs.Log.{floor};
 ghost use Rattle.den_model.specs.Sizes.{entries_size, family_size};
+ghost use Rattle.den_model.specs.Spelling.{log_region_word};
 ghost use Rattle.den_model.specs.Words.{FitsLogRegion};
-ghost use Rattle.den_model.specs.declared.region.LogRegion.TheVariants.{Purge};
-ghost use Rattle.den_journal.specs.Writes.{Opens};
+ghost use Rattle.den_model.specs.declared.region.LogRegion.TheVariants.{Append, Purge, Replace, Reset, Truncate};
+ghost use Rattle.den_journal.specs.Causes.{IsOfDisk};
+ghost use Rattle.den_journal.specs.Writes.{Opens, StoreStands, Writes};
+ghost use Rattle.den_store.specs.Changes.{log_change, purge_change, purge_words};
 ghost use Rattle.den_store.specs.FileLog.{log_shown, file_place, log_held, log_light, log_lies};
 ghost use Rattle.den_store.specs.Held.{log_of};
+ghost use Rattle.den_store.specs.Regions.{AddsRegion, WritesAnew};
 
 use crate::LogStore;
 use crate::copies::copied;
@@ -64,7 +70,17 @@ impl<D: Disk> LogStore<D> for FileLogStore {
 
     ghost lies = { log_lies };
 
-    fn persist_entries(&mut self, disk: &mut D, entries: &[Entry]) -> Result<(), Error> {
+    /// Adds one Append region to the slot in use, where there are entries.
+    fn persist_entries(&mut self, disk: &mut D, entries: &[Entry]) -> Result<(), Error>
+        requires stands { StoreStands D.Disk (log_shown self.old) disk.old }
+        requires rise { rise_from (floor (log_shown self.old).value + 1) entries.now ≡ true }
+        ensures writes { Writes D.Disk (log_shown self.old) (log_shown self.new) disk.old disk.new log_family log_held
+            (log_change (log_shown self.old).value (Append entries.now)) result }
+        ensures same { IfErr result (λ e. IsOfDisk e → (log_shown self.new).value ≡ (log_shown self.old).value) }
+        ensures nothing { entries.now ≡ [] → (disk.new ≡ disk.old) × IsOk result }
+        ensures region { 1 ≤ length entries.now → OnOk result (AddsRegion D.Disk self.old.journal.gate self.new.journal.gate disk.old disk.new
+            (log_region_word (Append entries.now))) }
+    {
         if entries.is_empty() {
             return Ok(());
         }
@@ -75,7 +91,17 @@ impl<D: Disk> LogStore<D> for FileLogStore {
         }
     }
 
-    fn purge(&mut self, disk: &mut D, cutoff: LogId) -> Result<(), Error> {
+    /// Writes the log anew in the other slot, which is in use then: one Purge region and, where entries are left, one Append
+    /// region.
+    fn purge(&mut self, disk: &mut D, cutoff: LogId) -> Result<(), Error>
+        requires stands { StoreStands D.Disk (log_shown self.old) disk.old }
+        ensures writes { Writes D.Disk (log_shown self.old) (log_shown self.new) disk.old disk.new log_family log_held
+            (purge_change (log_shown self.old).value cutoff) result }
+        ensures same { IfErr result (λ e. IsOfDisk e → (log_shown self.new).value ≡ (log_shown self.old).value) }
+        ensures nothing { cutoff.index ≤ floor (log_shown self.old).value → (disk.new ≡ disk.old) × IsOk result }
+        ensures regions { floor (log_shown self.old).value < cutoff.index
+            → OnOk result (WritesAnew D.Disk self.old.journal.gate self.new.journal.gate disk.old disk.new (purge_words (log_shown self.old).value cutoff)) }
+    {
         if cutoff.index <= self.journal.held().floor() {
             return Ok(());
         }
@@ -84,17 +110,35 @@ impl<D: Disk> LogStore<D> for FileLogStore {
         self.journal.rewrite(disk, region, rest)
     }
 
-    fn truncate(&mut self, disk: &mut D, from_index: u64) -> Result<(), Error> {
+    /// Adds one Truncate region to the slot in use.
+    fn truncate(&mut self, disk: &mut D, from_index: u64) -> Result<(), Error>
+        requires stands { StoreStands D.Disk (log_shown self.old) disk.old }
+        ensures writes { Writes D.Disk (log_shown self.old) (log_shown self.new) disk.old disk.new log_family log_held
+            (log_change (log_shown self.old).value (Truncate from_index)) result }
+        ensures same { IfErr result (λ e. IsOfDisk e → (log_shown self.new).value ≡ (log_shown self.old).value) }
+        ensures region { OnOk result (AddsRegion D.Disk self.old.journal.gate self.new.journal.gate disk.old disk.new
+            (log_region_word (Truncate from_index))) }
+    {
         self.journal
             .change(disk, LogRegion::Truncate { from: from_index })
     }
 
+    /// Adds one Replace region to the slot in use, also where there are no entries.
     fn replace_range(
         &mut self,
         disk: &mut D,
         from_index: u64,
         new_entries: &[Entry],
-    ) -> Result<(), Error> {
+    ) -> Result<(), Error>
+        requires stands { StoreStands D.Disk (log_shown self.old) disk.old }
+        requires above { IfSome (log_shown self.old).value.boundary (λ b. b.index < from_index) }
+        requires rise { rise_from from_index new_entries.now ≡ true }
+        ensures writes { Writes D.Disk (log_shown self.old) (log_shown self.new) disk.old disk.new log_family log_held
+            (log_change (log_shown self.old).value (Replace (record { from = from_index; entries = new_entries.now }))) result }
+        ensures same { IfErr result (λ e. IsOfDisk e → (log_shown self.new).value ≡ (log_shown self.old).value) }
+        ensures region { OnOk result (AddsRegion D.Disk self.old.journal.gate self.new.journal.gate disk.old disk.new
+            (log_region_word (Replace (record { from = from_index; entries = new_entries.now })))) }
+    {
         let copies = copied(self.alloc, new_entries)?;
         match Replacement::of(from_index, Rows::of(copies)) {
             Some(replacement) => self
@@ -104,7 +148,15 @@ impl<D: Disk> LogStore<D> for FileLogStore {
         }
     }
 
-    fn reset(&mut self, disk: &mut D) -> Result<(), Error> {
+    /// Adds one Reset region to the slot in use.
+    fn reset(&mut self, disk: &mut D) -> Result<(), Error>
+        requires stands { StoreStands D.Disk (log_shown self.old) disk.old }
+        ensures writes { Writes D.Disk (log_shown self.old) (log_shown self.new) disk.old disk.new log_family log_held
+            (log_change (log_shown self.old).value Reset) result }
+        ensures same { IfErr result (λ e. IsOfDisk e → (log_shown self.new).value ≡ (log_shown self.old).value) }
+        ensures region { OnOk result (AddsRegion D.Disk self.old.journal.gate self.new.journal.gate disk.old disk.new
+            (log_region_word Reset)) }
+    {
         self.journal.change(disk, LogRegion::Reset)
     }
 

@@ -1,10 +1,14 @@
 //! The store of the hard state over a journal.
 ghost use Rattle.den_disk.specs.declared.place.Family.TheVariants.{Meta as meta_family};
-ghost use Rattle.std.specs.Prelude.{◌≡◌, IfSome};
+ghost use Rattle.std.specs.Prelude.{◌≡◌, ◌∷◌, [], IfSome, IfErr, OnOk};
 ghost use Rattle.den_model.specs.Image.{hard_state_held};
+ghost use Rattle.den_model.specs.Spelling.{hard_state_word};
 ghost use Rattle.den_model.specs.Words.{FitsHardState, FitsVote};
-ghost use Rattle.den_journal.specs.Writes.{Opens};
+ghost use Rattle.den_journal.specs.Causes.{IsOfDisk};
+ghost use Rattle.den_journal.specs.Writes.{Opens, StoreStands, Writes};
+ghost use Rattle.den_store.specs.Changes.{state_change};
 ghost use Rattle.den_store.specs.FileMeta.{meta_shown, state_held, meta_lies};
+ghost use Rattle.den_store.specs.Regions.{WritesAnew};
 
 use crate::MetaStore;
 use crate::last_state::LastState;
@@ -70,8 +74,15 @@ impl<D: Disk> MetaStore<D> for FileMetaStore {
 
     ghost lies = { meta_lies };
 
+    /// Writes one region of the hard state into the other slot, which is in use then.
     #[tactic(auto, using(crate::proofs::Anew::state_gives, crate::proofs::Anew::state_small))]
-    fn save_hard_state(&mut self, disk: &mut D, state: &HardState) -> Result<(), Error> {
+    fn save_hard_state(&mut self, disk: &mut D, state: &HardState) -> Result<(), Error>
+        requires stands { StoreStands D.Disk (meta_shown self.old) disk.old }
+        ensures writes { Writes D.Disk (meta_shown self.old) (meta_shown self.new) disk.old disk.new meta_family state_held
+            (state_change state.now) result }
+        ensures same { IfErr result (λ e. IsOfDisk e → (meta_shown self.new).value ≡ (meta_shown self.old).value) }
+        ensures regions { OnOk result (WritesAnew D.Disk self.old.journal.gate self.new.journal.gate disk.old disk.new (hard_state_word state.now ∷ [])) }
+    {
         self.journal.rewrite(disk, copy_of(state), None)
     }
 

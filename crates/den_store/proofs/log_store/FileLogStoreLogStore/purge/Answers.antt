@@ -1,5 +1,7 @@
 use Rattle.std.proofs.Common.{◌≡◌, ◌<◌, ◌≤◌, length, Option, Ok, refl, ap, sym, ◌∙◌, subst, arith}
+use Rattle.std.specs.Prelude.{OnOk}
 use Rattle.den_disk.specs.declared.place.Family.TheVariants.{Log as log_family}
+use Rattle.den_gate.specs.Gate.{payloads}
 use Rattle.den_model.specs.declared.region.LogRegion.{LogRegion}
 use Rattle.den_model.specs.declared.region.LogRegion.TheVariants.{Purge}
 use Rattle.den_model.specs.Log.{above, changed, empty_log, floor, is_lawful, log_from}
@@ -8,14 +10,16 @@ use Rattle.den_model.specs.Sizes.{entries_size, store_rise}
 use Rattle.den_model.specs.Spelling.{log_region_word}
 use Rattle.den_journal.specs.Drafts.{anew_words, IsSizeOf}
 use Rattle.den_journal.specs.Shown.{rewrite_size}
-use Rattle.den_journal.specs.Writes.{Writes}
+use Rattle.den_journal.specs.Writes.{DiskTells, Writes}
 use Rattle.den_journal.proofs.Moving.{writes_nothing, writes_refused}
 use Rattle.den_store.specs.declared.held_log.HeldLog.{HeldLog}
+use Rattle.den_store.specs.Changes.{purge_words}
 use Rattle.den_store.specs.Held.{log_of}
 use Rattle.den_store.specs.FileLog.{log_held, log_shown, log_lies}
 use Rattle.den_store.specs.Lookup.{entries_of, rest_region}
 use Rattle.den_store.proofs.Anew.{purge_gives, purge_small}
 use Rattle.den_store.proofs.HeldLogs.{not_purged}
+use Rattle.den_store.proofs.Regions.{written_anew}
 use Rattle.den_store.proofs.log_store.FileLogStoreLogStore.purge.Goals as goal
 
 pub returns-then-cutoff-floor-clause-writes : goal.returns-then-cutoff-floor-clause-writes
@@ -81,3 +85,17 @@ returns-clause-writes g c =
 
 pub returns-clause-nothing : goal.returns-clause-nothing
 returns-clause-nothing g c = λ under. absurd (omega (arith, c.floor.ensures, ap (λ h. floor (log_of h)) c.held.ensures, c.if-cutoff-floor.false, under))
+
+pub returns-then-cutoff-floor-clause-regions : goal.returns-then-cutoff-floor-clause-regions
+returns-then-cutoff-floor-clause-regions g c = λ over. absurd (omega (arith, c.floor.ensures, ap (λ h. floor (log_of h)) c.held.ensures, c.if-cutoff-floor.true, over))
+
+pub returns-clause-regions : goal.returns-clause-regions
+returns-clause-regions g c =
+    let s = c.args.self.now in
+    let l = log_of s.journal.held in
+    let is : c.in_ok-rest.rest ≡ rest_region (above c.args.cutoff.index l.entries) = c.in_ok-rest.ensures.rest ∙ ap (λ (h : HeldLog). rest_region (above c.args.cutoff.index (log_of h).entries)) c.held-2.ensures in
+    λ _. written_anew g.D.Disk s.journal.gate c.rewrite.new.self.gate c.args.disk.now c.rewrite.new.disk (purge_words l c.args.cutoff) c.rewrite.result c.rewrite.ensures.slot
+    (subst (λ (rest : Option LogRegion). OnOk c.rewrite.result (DiskTells g.D.Disk c.args.disk.now →
+    payloads c.rewrite.new.self.gate (g.D.Disk.content c.rewrite.new.disk).reading ≡ anew_words log_region_word (Purge c.args.cutoff.index c.args.cutoff.term) rest)) is
+    (subst (λ (r : LogRegion). OnOk c.rewrite.result (DiskTells g.D.Disk c.args.disk.now →
+    payloads c.rewrite.new.self.gate (g.D.Disk.content c.rewrite.new.disk).reading ≡ anew_words log_region_word r c.in_ok-rest.rest)) c.purge_of-region.ensures.is c.rewrite.ensures.rewritten))
