@@ -3,11 +3,12 @@ use Rattle.std.proofs.Common.{◌≡◌, ◌≤◌, ◌+◌, ℕ, arith, Bool, t
 use Rattle.std.specs.Prelude.{IfSome, if◌then◌else◌}
 use Rattle.std.proofs.lemmas.Result.{on_ok_weaker, IfErr-weaker}
 use Rattle.den_disk.specs.declared.disk.Disk.{Ghosts}
-use Rattle.den_disk.specs.declared.place.Family.TheVariants.{Snapshot as snapshot_family, State as state_family}
+use Rattle.den_disk.specs.declared.place.Family.TheVariants.{State as state_family}
 use Rattle.den_disk.specs.Files.{Files, Content}
 use Rattle.den_codec.specs.declared.error.Error.{Error}
 use Rattle.den_codec.specs.declared.error.Error.TheVariants as error
-use Rattle.den_core.specs.Full.{IsFullBy}
+use Rattle.den_core.specs.Full.{IsFullBy, IsSlotTooShort}
+use Rattle.den_core.specs.PayloadSizes.{chunk_sizes}
 use Rattle.den_core.proofs.Weighing.{full_by}
 use Rattle.den_state.proofs.Weighing.{light_chunk}
 use Rattle.den_model.specs.Entries.{LogEntry}
@@ -23,9 +24,6 @@ use Rattle.den_state.specs.Changes.{chunk_change}
 use Rattle.den_state.specs.Checkpoint.{IsCheckpointSize}
 use Rattle.den_state.specs.Chunk.{IsChunkRefusal, refusal_of_chunk}
 use Rattle.den_state.specs.Machine.{AtRest}
-
-state_served : state_family ≡ snapshot_family → ⊥
-state_served e = cc
 
 -- ---- the refusal of a chunk
 
@@ -56,9 +54,9 @@ module _ (leased : Bool) (mark : ℕ) (chunk : List LogEntry) where
         | None ↦ λ at some. let lease = lease_refusal (lacks_lease leased chunk) e some in subst P (sym lease.0) (at, lease.1)
       ] refl is
 
-  pub turned_light : (told : Type 0) (files : Files) (most weight : ℕ) (e : Error) → refusal_of_chunk leased mark chunk ≡ Some e → IsFullBy told files most weight e
-  turned_light told files most weight e is =
-      let P : Error → Type 0 = IsFullBy told files most weight in
+  pub turned_light : (told : Type 0) (short : ℕ → Type 0) (most weight : ℕ) (e : Error) → refusal_of_chunk leased mark chunk ≡ Some e → IsFullBy told short most weight e
+  turned_light told short most weight e is =
+      let P : Error → Type 0 = IsFullBy told short most weight in
       elim (out_of_order mark chunk) as (λ o. by_order o ≡ Some e → P e) [
         | Some index ↦ λ some. let is : error.UnorderedChunk index ≡ e = cc some in subst P is tt
         | None ↦ λ some. let lease = lease_refusal (lacks_lease leased chunk) e some in subst P (sym lease.0) tt
@@ -109,12 +107,18 @@ module _ {D T : Type 0} (disk : Ghosts D) (holds : Held MapState) (was now : Sho
       by_refusal (IfErr result P) (λ e is r d. subst (λ (x : Result T Error). IfErr x P) (sym r) (turned leased mark chunk (Faulted disk old new) (disk.kind old).limit e is))
       (λ none w. IfErr-weaker result _ P (λ e r. disk_refused leased mark chunk (Faulted disk old new) (disk.kind old).limit e none r.cause) w.refused)
 
-  pub chunk_full : ((n : ℕ) → IsCheckpointSize (map_applied_all was.value chunk) n → n ≤ was.weight + store_rise (entries_size chunk))
-      → IfErr result (IsFullBy (DiskTells disk old × holds.told) (disk.content new).reading (disk.kind old).limit (was.weight + store_rise (entries_size chunk)))
-  chunk_full drafted =
-      let P : Error → Type 0 = IsFullBy (DiskTells disk old × holds.told) (disk.content new).reading (disk.kind old).limit (was.weight + store_rise (entries_size chunk)) in
-      by_refusal (IfErr result P) (λ e is r d. subst (λ (x : Result T Error). IfErr x P) (sym r) (turned_light leased mark chunk (DiskTells disk old × holds.told) (disk.content new).reading (disk.kind old).limit (was.weight + store_rise (entries_size chunk)) e is))
-      (λ none w. IfErr-weaker result _ P (λ e r. full_by _ state_family _ _ _ _ _ e state_served (λ n is. let light = light_chunk was.value chunk in omega (arith, light, is)) drafted r.full r.heavy) w.refused)
+  pub chunk_full : (m : MapState) → (DiskTells disk old → was.value ≡ m) → ((n : ℕ) → IsCheckpointSize (map_applied_all was.value chunk) n → n ≤ was.weight + store_rise (entries_size chunk))
+      → IfErr result (IsFullBy (DiskTells disk old × holds.told) (λ needed. IsSlotTooShort (chunk_sizes m chunk) (was.weight + store_rise (entries_size chunk)) needed (disk.content new).reading)
+      (disk.kind old).limit (was.weight + store_rise (entries_size chunk)))
+  chunk_full m stored drafted =
+      let most = was.weight + store_rise (entries_size chunk) in
+      let P : Error → Type 0 = IsFullBy (DiskTells disk old × holds.told) (λ needed. IsSlotTooShort (chunk_sizes m chunk) most needed (disk.content new).reading) (disk.kind old).limit most in
+      by_refusal (IfErr result P)
+      (λ e is r d. subst (λ (x : Result T Error). IfErr x P) (sym r) (turned_light leased mark chunk (DiskTells disk old × holds.told) (λ needed. IsSlotTooShort (chunk_sizes m chunk) most needed (disk.content new).reading) (disk.kind old).limit most e is))
+      (λ none w. IfErr-weaker result _ P (λ e r. full_by (DiskTells disk old × holds.told) state_family (disk.content new).reading (disk.kind old).limit most (chunk_change was.value chunk).adds (chunk_change was.value chunk).drafts (chunk_sizes m chunk) e
+      (λ t n is. let light = light_chunk was.value chunk in (subst (λ (x : MapState). (chunk_change x chunk).adds n) (stored t.0) is, omega (arith, light, is)))
+      (λ t n is. (subst (λ (x : MapState). (chunk_change x chunk).drafts n) (stored t.0) is, drafted n is))
+      r.full r.heavy) w.refused)
 
 -- a state machine whose files give the map that a chunk made
 pub at_rest_ok : {T : Type 0} (Told : Type 0) {n : ℕ} (now : Shown MapState) (map : MapState) (content : Content) (result : Result T Error) → OnOk result (Told → now.rests content) → OnOk result (1 ≤ n → now.value ≡ map) → 1 ≤ n

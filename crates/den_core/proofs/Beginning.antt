@@ -1,18 +1,20 @@
 -- A run: the opening, and then the frames.
-use Rattle.std.proofs.Common.{◌≡◌, ℕ, ◌≤◌, List, [], ◌∷◌, ◌++◌, length, Bool, true, false, if◌then◌else◌, Option, Some, refl, sym, ◌∙◌, ap, subst, arith}
+use Rattle.std.proofs.Common.{◌≡◌, ℕ, ◌≤◌, List, [], ◌∷◌, ◌++◌, length, Bool, true, false, if◌then◌else◌, Option, Some, inl, refl, sym, ◌∙◌, ap, subst, arith}
 use Rattle.std.proofs.lemmas.List.{append-nil}
 use Rattle.den_disk.specs.Files.{Files}
 use Rattle.den_disk.specs.Goes.{Extends, added}
 use Rattle.den_model.specs.declared.request.Frame.{Frame}
-use Rattle.den_model.specs.Crash.{Survives, Stands, IsWhole, IsDone, IsAnswered, IsServed}
+use Rattle.den_model.specs.Crash.{Survives, Stands, IsWhole, IsDone, IsAnswered, IsServed, bytes_of}
 use Rattle.den_model.specs.Grown.{IsLogAfter}
 use Rattle.den_model.specs.Kv.{Durable, Kv}
 use Rattle.den_model.specs.Log.{Log}
 use Rattle.den_model.specs.Plan.{after, output, opening, turns, plan}
-use Rattle.den_model.specs.Step.{Cleanup, moment_of}
+use Rattle.den_model.specs.Step.{Step, Cleanup, moment_of}
 use Rattle.den_core.proofs.FramesSoFar.{turns_none}
 use Rattle.den_core.proofs.Lists.{added_is, added_none, added_twice, extends_by}
+use Rattle.den_core.proofs.Reached.{begun_reached, reached_behind}
 use Rattle.den_core.proofs.Stretch.{goes_on, whole_twice}
+use Rattle.den_core.specs.Full.{IsBegun, IsReached}
 
 -- a cleanup sends nothing
 quiet_cleanup : (kv : Kv) (lease : Bool) (moment : ℕ) → output kv (if lease then Cleanup moment ∷ [] else []) ≡ []
@@ -73,3 +75,21 @@ module _ (holds : Files → Option Durable) (kv : Kv) (all : List Frame) (images
   runs later to opened r0 r1 r2 sent low high past read more state next =
       subst (λ steps. Survives holds later from to sent kv steps) (is_plan kv all reading moment is_moment opened r0 r1 r2 read more state)
       (goes_on holds images later from mid to [] sent kv opened (opening kv moment) (turns opened all (added r1 r2)) low high past begun state (sym (opening_quiet kv moment)) next)
+
+-- the opening was refused
+pub opening_reached : (first : Kv) (old : Log) (all : List Frame) (r0 r1 : List ℕ) (reading moment : ℕ) (s0 : List (ℕ × ℕ)) (kv : Kv) (log : Log) (next : Step)
+    → r1 ≡ r0 ++ reading ∷ [] → moment ≡ moment_of reading → IsBegun first old (opening first moment) kv log next → IsReached first old (plan first all (added r0 r1)) (bytes_of (added s0 s0)) kv log next
+opening_reached first old all r0 r1 reading moment s0 kv log next read is_moment begun =
+    let is_all : opening first moment ≡ plan first all (added r0 r1) =
+    sym (append-nil (opening first moment)) ∙ ap (λ l. opening first moment ++ l) (sym (turns_none (after first (opening first moment)) all))
+    ∙ ap (λ m. opening first m ++ turns (after first (opening first m)) all []) is_moment ∙ ap (plan first all) (sym (added_is r0 r1 (reading ∷ []) read)) in
+    reached_behind first first old old [] (opening first moment) (plan first all (added r0 r1)) [] [] (bytes_of (added s0 s0)) kv log next
+    refl refl (inl refl) is_all (ap bytes_of (added_none s0)) (begun_reached first old (opening first moment) kv log next begun)
+
+-- a frame's step was, behind it
+pub frames_reached : (first opened : Kv) (old opened_log : Log) (all : List Frame) (r0 r1 r2 : List ℕ) (reading moment : ℕ) (sent : List ℕ) (kv : Kv) (log : Log) (next : Step)
+    → r1 ≡ r0 ++ reading ∷ [] → Extends r1 r2 → moment ≡ moment_of reading → opened ≡ after first (opening first moment) → IsLogAfter old first (opening first moment) opened_log
+    → IsReached opened opened_log (turns opened all (added r1 r2)) sent kv log next → IsReached first old (plan first all (added r0 r2)) sent kv log next
+frames_reached first opened old opened_log all r0 r1 r2 reading moment sent kv log next read more is_moment state logged reached =
+    reached_behind first opened old opened_log (opening first moment) (turns opened all (added r1 r2)) (plan first all (added r0 r2)) [] sent sent kv log next
+    state (sym (opening_quiet first moment)) logged (is_plan first all reading moment is_moment opened r0 r1 r2 read more state) refl reached

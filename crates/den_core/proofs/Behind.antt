@@ -4,7 +4,7 @@ use Rattle.std.specs.Result.{IsErrAnd}
 use Rattle.den_disk.specs.declared.disk.Disk.{Ghosts}
 use Rattle.den_disk.specs.declared.place.Family.TheVariants.{Snapshot as snapshot_family}
 use Rattle.den_disk.specs.Families.{OldOrNew}
-use Rattle.den_disk.specs.Files.{Kind}
+use Rattle.den_disk.specs.Files.{Files, Kind}
 use Rattle.den_codec.specs.declared.error.Error.{Error}
 use Rattle.den_codec.specs.declared.error.Error.TheVariants.{OutOfMemory, StorageIoError, DiskFull, LinkFault, DataCorruption, FeatureNotEnabled, ProposeFailed, UnorderedChunk, Config, StateMachineError}
 use Rattle.den_journal.specs.Writes.{GoesOn, DiskTells}
@@ -19,7 +19,9 @@ use Rattle.den_core.proofs.GoesOn.{disk_twice}
 use Rattle.den_core.proofs.Quiet.{stood}
 use Rattle.den_core.proofs.Refusing.{at_exit, not_done, refusal_behind}
 use Rattle.den_core.proofs.Spared.{moves_then, spares_twice}
-use Rattle.den_core.proofs.Weighing.{heavier}
+use Rattle.den_core.specs.Full.{IsSlotTooShort}
+use Rattle.den_core.specs.PayloadSizes.{PayloadSizes}
+use Rattle.den_core.proofs.Weighing.{AreAmong, heavier, short_slot}
 
 -- a refusal that leaves what has failed, of which more was written before
 left_then : (e : Error) (failed untouched written other more : Type 0) → failed → (untouched → more) → (written → more) → FailsOrStays failed untouched written e → FailsOrStays failed other more e
@@ -35,12 +37,12 @@ left_then (UnorderedChunk index) failed untouched written other more fails still
 left_then (Config place) failed untouched written other more fails still wrote left = fails
 left_then StateMachineError failed untouched written other more fails still wrote left = fails
 
-module _ {D : Type 0} (disk : Ghosts D) (was mid now : Seen) (old between new : D) (says : Says) (to : Durable) (entries : List LogEntry) (rise more : ℕ) {T : Type 0} (x : T)
-    (one : Changes disk was mid old between says to entries rise (Ok x)) (exact : mid.log ≡ appended was.log entries) where
+module _ {D : Type 0} (disk : Ghosts D) (was mid now : Seen) (old between new : D) (says : Says) (to : Durable) (entries : List LogEntry) (sizes : PayloadSizes) (rise more : ℕ) {T : Type 0} (x : T)
+    (one : Changes disk was mid old between says to entries sizes rise (Ok x)) (exact : mid.log ≡ appended was.log entries) where
   tells_then : DiskTells disk old → DiskTells disk between
   tells_then told = subst (λ (k : Kind). IsTrue k.tells) (sym one.goes_on.same) told
 
-  module _ {U : Type 0} (r : Result U Error) (two : Makes disk mid now between new says [] more (now.log ≡ mid.log) r) where
+  module _ {U : Type 0} (r : Result U Error) (short : (most needed : ℕ) → Files → Type 0) (two : Makes disk mid now between new says [] more short (now.log ≡ mid.log) r) where
     both_go_on : GoesOn disk old new
     both_go_on = disk_twice disk.kind disk.moment disk.images disk.faults old between new one.goes_on two.goes_on
 
@@ -55,12 +57,12 @@ module _ {D : Type 0} (disk : Ghosts D) (was mid now : Seen) (old between new : 
         (stood says.holds (disk.images new) (disk.moment between) (disk.moment new) mid.kv (two.survives (tells_then told) held)))
 
   -- it was made
-  pub changes_then : {U V : Type 0} (y : U) (z : V) → Makes disk mid now between new says [] more (now.log ≡ mid.log) (Ok y) → Changes disk was now old new says to entries (rise + more) (Ok z)
-  changes_then y z two = record {
-    goes_on = both_go_on (Ok y) two;
-    snapshot = both_spare (Ok y) two;
+  pub changes_then : {U V : Type 0} (y : U) (z : V) (short : (most needed : ℕ) → Files → Type 0) → Makes disk mid now between new says [] more short (now.log ≡ mid.log) (Ok y) → Changes disk was now old new says to entries sizes (rise + more) (Ok z)
+  changes_then y z short two = record {
+    goes_on = both_go_on (Ok y) short two;
+    snapshot = both_spare (Ok y) short two;
     same_most = two.same_most ∙ one.same_most;
-    moves = both_move (Ok y) two;
+    moves = both_move (Ok y) short two;
     done = record {
       durable = ap (λ (k : Kv). k.durable) two.done.state ∙ one.done.durable;
       logged = subst (λ (d : Durable). IsPurgedUpTo d.last_index (appended was.log entries) now.log) one.done.durable
@@ -72,17 +74,17 @@ module _ {D : Type 0} (disk : Ghosts D) (was mid now : Seen) (old between new : 
   }
 
   -- it was refused, with all that was changed
-  pub changes_refused : {U V : Type 0} (e : Error) (r : Result V Error) → IsErrAnd r (λ y. y ≡ e) → 1 ≤ length entries → now.failed → Makes disk mid now between new {T = U} says [] more (now.log ≡ mid.log) (Err e)
-      → Changes disk was now old new says to entries (rise + more) r
-  changes_refused e r exit some failed two = record {
-    goes_on = both_go_on (Err e) two;
-    snapshot = both_spare (Err e) two;
+  pub changes_refused : {U V : Type 0} (e : Error) (r : Result V Error) (few : PayloadSizes) → AreAmong few sizes → IsErrAnd r (λ y. y ≡ e) → 1 ≤ length entries → now.failed → Makes disk mid now between new {T = U} says [] more (IsSlotTooShort few) (now.log ≡ mid.log) (Err e)
+      → Changes disk was now old new says to entries sizes (rise + more) r
+  changes_refused e r few among exit some failed two = record {
+    goes_on = both_go_on (Err e) (IsSlotTooShort few) two;
+    snapshot = both_spare (Err e) (IsSlotTooShort few) two;
     same_most = two.same_most ∙ one.same_most;
-    moves = both_move (Err e) two;
+    moves = both_move (Err e) (IsSlotTooShort few) two;
     done = not_done r e _ exit;
     refused = at_exit r e _ exit (record {
       cause = refusal_behind _ _ _ _ e (λ rose. omega (arith, rose, one.goes_on.counts)) (ap (λ (k : Kind). k.limit) one.goes_on.same) two.refused.cause;
-      full = heavier _ _ _ _ _ _ _ e (λ t. (tells_then t.0, t.1)) (ap (λ (k : Kind). k.limit) one.goes_on.same) (omega (arith, one.done.weight)) two.refused.full;
+      full = heavier _ _ _ _ _ _ _ _ e (λ t. (tells_then t.0, t.1)) (λ needed t. short_slot _ _ _ _ needed _ among (omega (arith, one.done.weight))) (ap (λ (k : Kind). k.limit) one.goes_on.same) (omega (arith, one.done.weight)) two.refused.full;
       left = left_then e now.failed _ _ _ _ failed
           (λ still. record { some = some; joined = still.same_log ∙ exact })
           (λ same. record { some = some; joined = same ∙ exact }) two.refused.left;

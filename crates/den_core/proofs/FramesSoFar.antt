@@ -4,16 +4,18 @@ use Rattle.std.proofs.lemmas.List.{append-nil, drop-drop, length-drop, length_pu
 use Rattle.den_disk.specs.Files.{Files}
 use Rattle.den_disk.specs.Goes.{Extends, added}
 use Rattle.den_model.specs.declared.request.Frame.{Frame}
-use Rattle.den_model.specs.Crash.{Survives, Stands, IsWhole, IsDone}
+use Rattle.den_model.specs.Crash.{Survives, Stands, IsWhole, IsDone, bytes_of}
 use Rattle.den_model.specs.Frames.{frames, frames_behind}
 use Rattle.den_model.specs.Kv.{Durable, Kv}
 use Rattle.den_model.specs.Log.{Log}
 use Rattle.den_model.specs.Plan.{after, turn, turns}
-use Rattle.den_model.specs.Step.{moment_of}
+use Rattle.den_model.specs.Step.{Step, moment_of}
 use Rattle.den_model.proofs.Grown.{log_after}
 use Rattle.den_model.proofs.Runs.{after_append}
 use Rattle.den_core.proofs.Lists.{added_is, added_none, added_twice, extends_by}
+use Rattle.den_core.proofs.Reached.{begun_reached, reached_behind}
 use Rattle.den_core.proofs.Stretch.{goes_on, whole_twice}
+use Rattle.den_core.specs.Full.{IsBegun, IsReached}
 
 -- no turn without a reading
 pub turns_none : (kv : Kv) (all : List Frame) → turns kv all [] ≡ []
@@ -121,6 +123,21 @@ module _ (told : Type 0) (holds : Files → Option Durable) (old_images images :
       (subst (λ r. SoFar told holds images from to all rest r (added s0 s1 ++ added s2 s3) kv new log new_log) (sym all_taken)
       (frame_served told holds old_images images from mid to all left (added r0 r1) (added s0 s1) (added s2 s3) kv now log log_now frame rest reading low high past so_far here at_moment
       new new_log (subst (λ m. IsWhole (added s2 s3) now log_now (turn now frame m) new new_log) is_moment done)))
+
+-- the step of a frame was refused, and nothing was sent of it
+pub turn_reached : (told : Type 0) (holds : Files → Option Durable) (images : ℕ → Files → Type 0) (from to : ℕ) (all left rest : List Frame) (frame : Frame) (first now : Kv) (old log_now : Log)
+    (r0 r1 r2 : List ℕ) (reading moment : ℕ) (s0 s1 s2 : List (ℕ × ℕ)) (kv : Kv) (log : Log) (next : Step)
+    → Extends r0 r1 → r2 ≡ r1 ++ reading ∷ [] → moment ≡ moment_of reading → s2 ≡ s1 → SoFar told holds images from to all left (added r0 r1) (added s0 s1) first now old log_now → left ≡ frame ∷ rest
+    → IsBegun now log_now (turn now frame moment) kv log next → IsReached first old (turns first all (added r0 r2)) (bytes_of (added s0 s2)) kv log next
+turn_reached told holds images from to all left rest frame first now old log_now r0 r1 r2 reading moment s0 s1 s2 kv log next taken read is_moment quiet so_far here begun =
+    let made = turns first all (added r0 r1) in
+    let taken_all : added r0 r2 ≡ added r0 r1 ++ reading ∷ [] = added_twice r0 r1 r2 taken (extends_by r1 r2 (reading ∷ []) read) ∙ ap (λ l. added r0 r1 ++ l) (added_is r1 r2 (reading ∷ []) read) in
+    let is_all : made ++ turn now frame moment ≡ turns first all (added r0 r2) =
+    ap (λ m. made ++ turn now frame m) is_moment ∙ ap (λ k. made ++ turn k frame (moment_of reading)) so_far.whole.state
+    ∙ sym (turns_push first all (added r0 r1) frame rest reading (so_far.rest ∙ here)) ∙ ap (turns first all) (sym taken_all) in
+    reached_behind first now old log_now made (turn now frame moment) (turns first all (added r0 r2)) (bytes_of (added s0 s1)) [] (bytes_of (added s0 s2)) kv log next
+    so_far.whole.state so_far.whole.bytes so_far.whole.logged is_all (ap (λ s. bytes_of (added s0 s)) quiet ∙ sym (append-nil (bytes_of (added s0 s1))))
+    (begun_reached now log_now (turn now frame moment) kv log next begun)
 
 frames_none : (limit : ℕ) → frames limit [] ≡ []
 unfolding frames_behind

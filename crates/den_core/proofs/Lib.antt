@@ -1,6 +1,7 @@
 pub mod CatchUp
 pub mod Durables
 pub mod Quiet
+pub mod Reached
 pub mod Refusing
 pub mod Spared
 pub mod Steps

@@ -14,11 +14,14 @@ use Rattle.den_model.specs.Plan.{after, logged, opening, turn}
 use Rattle.den_model.specs.declared.region.LogRegion.TheVariants.{Append}
 use Rattle.den_model.proofs.Grown.{log_after, log_twice}
 use Rattle.den_model.specs.Step.{Step, Raise, Noop, Cleanup, Ask, answer, next_entry}
+use Rattle.den_model.specs.Image.{term_of}
 use Rattle.den_model.specs.declared.log_id.HardState.{HardState}
+use Rattle.den_model.specs.declared.log_id.VotedFor.{VotedFor}
 use Rattle.den_model.specs.declared.log_id.LogId.{LogId}
 use Rattle.den_model.specs.declared.running.Running.{Running}
 use Rattle.den_model.specs.MapState.{MapState}
-use Rattle.den_core.specs.Parts.{kv_of, raised_of}
+use Rattle.den_core.specs.Full.{IsBegun}
+use Rattle.den_core.specs.Parts.{kv_of, raised_of, vote_of}
 use Rattle.den_core.specs.Refusals.{HasJoined}
 use Rattle.den_core.specs.Trimmed.{logged_after}
 use Rattle.den_core.proofs.Quiet.{moves, longer, quiet_on}
@@ -29,6 +32,23 @@ opening_is kv moment no_lease = ap (λ b. Raise ∷ Noop moment ∷ (if b then C
 
 turn_is : (kv : Kv) (frame : Frame) (moment : ℕ) → kv.running.setting.lease ≡ false → turn kv frame moment ≡ Ask frame moment ∷ []
 turn_is kv frame moment no_lease = ap (λ b. (if b && elim kv.running.cleaned [ None ↦ false | Some c ↦ nat_le (c + kv.running.setting.interval) moment ] then Cleanup moment ∷ [] else []) ++ Ask frame moment ∷ []) no_lease
+
+-- the steps of a call, as they were begun
+pub turn_begun : (kv : Kv) (log : Log) (frame : Frame) (moment : ℕ) → kv.running.setting.lease ≡ false → IsBegun kv log (turn kv frame moment) kv log (Ask frame moment)
+turn_begun kv log frame moment no_lease = record { made = []; rest = []; parts = sym (turn_is kv frame moment no_lease); state = refl; left_is = (refl, refl) }
+
+pub raise_begun : (kv : Kv) (log : Log) (moment : ℕ) → kv.running.setting.lease ≡ false → IsBegun kv log (opening kv moment) kv log Raise
+raise_begun kv log moment no_lease = record { made = []; rest = Noop moment ∷ []; parts = sym (opening_is kv moment no_lease); state = refl; left_is = (refl, refl) }
+
+pub noop_begun : (kv between : Kv) (log mid : Log) (moment : ℕ) → kv.running.setting.lease ≡ false → between ≡ after kv (Raise ∷ []) → mid ≡ log → IsBegun kv log (opening kv moment) between mid (Noop moment)
+noop_begun kv between log mid moment no_lease is same = record { made = Raise ∷ []; rest = []; parts = sym (opening_is kv moment no_lease); state = is; left_is = (same, refl) }
+
+-- the hard state that is saved
+pub raised_same : (running : Running) (h : Option HardState) (term : ℕ) (vote : Option VotedFor) → term ≡ term_of h → vote ≡ vote_of running (term + 1)
+    → (let x : HardState = record { current_term = term + 1; voted_for = vote } in x) ≡ raised_of running h
+raised_same running h term vote same voted =
+    ap (λ v. let x : HardState = record { current_term = term + 1; voted_for = v } in x) voted
+    ∙ ap (λ n. let x : HardState = record { current_term = n + 1; voted_for = vote_of running (n + 1) } in x) same
 
 -- the term was raised, or was not
 pub opening_begun : (holds : Files → Option Durable) (images : ℕ → Files → Type 0) (from to : ℕ) (kv : Kv) (moment : ℕ) → kv.running.setting.lease ≡ false

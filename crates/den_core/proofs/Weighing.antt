@@ -4,13 +4,20 @@ use Rattle.std.specs.Prelude.{IfSome}
 use Rattle.std.specs.Result.{IsErrAnd}
 use Rattle.den_codec.specs.Full.{IsHeavy}
 use Rattle.den_disk.specs.declared.place.Family.{Family}
-use Rattle.den_disk.specs.declared.place.Family.TheVariants.{Snapshot}
+use Rattle.den_disk.specs.declared.place.Family.TheVariants.{Log as log_family, Meta as meta_family, State as state_family, Snapshot as snapshot_family}
+use Rattle.den_disk.specs.declared.place.Place.{Place}
 use Rattle.den_disk.specs.Files.{Files}
 use Rattle.den_gate.specs.Draft.{other_slot}
 use Rattle.den_model.specs.Image.{slot_of}
 use Rattle.den_journal.specs.Causes.{IsFullFor, IsTooShort}
 use Rattle.den_journal.specs.Drafts.{IsSizeOf}
-use Rattle.den_core.specs.Full.{IsFullBy, IsSlotTooShort}
+use Rattle.den_core.specs.Full.{IsFullBy, IsSlotTooShort, IsStepTooShort}
+use Rattle.den_core.specs.PayloadSizes.{PayloadSizes, chunk_sizes, entry_sizes, step_sizes, trim_sizes}
+use Rattle.den_model.specs.declared.log_id.LogId.{LogId}
+use Rattle.den_model.specs.declared.region.LogRegion.TheVariants.{Append}
+use Rattle.den_model.specs.Kv.{Kv}
+use Rattle.den_model.specs.Log.{Log, changed}
+use Rattle.den_model.specs.MapState.{MapState, map_applied}
 use Rattle.den_codec.specs.declared.error.Error.{Error}
 use Rattle.den_codec.specs.declared.error.Error.TheVariants.{OutOfMemory, StorageIoError, DiskFull, LinkFault, DataCorruption, FeatureNotEnabled, ProposeFailed, UnorderedChunk, Config, StateMachineError}
 use Rattle.den_model.specs.declared.command.Command.{Command}
@@ -26,7 +33,7 @@ use Rattle.den_model.specs.declared.request.Frame.TheVariants.{Good, Bad}
 use Rattle.den_model.specs.Entries.{LogEntry}
 use Rattle.den_model.specs.Sizes.{entries_size, frame_size}
 use Rattle.den_model.specs.Spelling.{u32_word, u64_word, blob_word, option_word, vote_word, hard_state_word, command_word, entry_word, ttl_word, operation_word, request_word}
-use Rattle.den_model.specs.Step.{command_of}
+use Rattle.den_model.specs.Step.{Step, command_of}
 use Rattle.den_model.specs.Reading.{request_in}
 use Rattle.den_model.specs.Words.{IsBytes, IsRequestWord}
 use Rattle.den_model.proofs.RequestWords.{request_found}
@@ -35,74 +42,136 @@ use Rattle.den_core.specs.Weights.{frame_rise, served_weight, write_rise}
 
 -- ---- what is told
 
--- of what is heavier, the more so, where no more is told
-pub short_slot : (weight above needed : ℕ) (files : Files) → weight ≤ above → IsSlotTooShort weight needed files → IsSlotTooShort above needed files
-short_slot weight above needed files le slot = record {
+-- payloads are among others
+pub record AreAmong (few all : PayloadSizes) : Type 0 where
+  pub adds : (family : Family) (n : ℕ) → few.adds family n → all.adds family n
+  pub drafts : (family : Family) (n : ℕ) → few.drafts family n → all.drafts family n
+
+pub all_among : (sizes : PayloadSizes) → AreAmong sizes sizes
+all_among sizes = record { adds = λ family n is. is; drafts = λ family n is. is }
+
+-- a slot that is too short for some is so for those
+too_short : (slot : Place) (some others : ℕ → Type 0) (needed : ℕ) (files : Files) → ((n : ℕ) → some n → others n) → IsTooShort slot some needed files → IsTooShort slot others needed files
+too_short slot some others needed files so short = record { size = short.size; meant = so short.size short.meant; room = short.room; short = short.short }
+
+-- one of two slots, for some each
+slot_by : (family : Family) (files : Files) (needed : ℕ) (adds drafts more_adds more_drafts : ℕ → Type 0) → ((n : ℕ) → adds n → more_adds n) → ((n : ℕ) → drafts n → more_drafts n)
+    → IsTooShort (slot_of family files) adds needed files ⊎ IsTooShort (other_slot (slot_of family files)) drafts needed files
+    → IsTooShort (slot_of family files) more_adds needed files ⊎ IsTooShort (other_slot (slot_of family files)) more_drafts needed files
+slot_by family files needed adds drafts more_adds more_drafts added drafted (inl short) = inl (too_short (slot_of family files) adds more_adds needed files added short)
+slot_by family files needed adds drafts more_adds more_drafts added drafted (inr short) = inr (too_short (other_slot (slot_of family files)) drafts more_drafts needed files drafted short)
+
+-- of what is heavier, the more so
+pub short_slot : (few all : PayloadSizes) (weight above needed : ℕ) (files : Files) → AreAmong few all → weight ≤ above → IsSlotTooShort few weight needed files → IsSlotTooShort all above needed files
+short_slot few all weight above needed files among le slot = record {
   family = slot.family;
-  served = slot.served;
-  slot = slot.slot;
-  of_family = slot.of_family;
-  short = record { size = slot.short.size; meant = omega (arith, slot.short.meant); room = slot.short.room; short = slot.short.short };
+  short = slot_by slot.family files needed _ _ _ _
+      (λ n is. (among.adds slot.family n is.0, omega (arith, is.1))) (λ n is. (among.drafts slot.family n is.0, omega (arith, is.1))) slot.short;
 }
 
-pub heavier : (told more : Type 0) (files : Files) (most same : ℕ) (weight above : ℕ) (e : Error) → (told → more) → same ≡ most → weight ≤ above → IsFullBy more files same weight e → IsFullBy told files most above e
-heavier told more files most same weight above (DiskFull needed limit) so is le full = (
+pub same_short : (sizes : PayloadSizes) (weight above needed : ℕ) (files : Files) → weight ≤ above → IsSlotTooShort sizes weight needed files → IsSlotTooShort sizes above needed files
+same_short sizes weight above needed files le slot = short_slot sizes sizes weight above needed files (all_among sizes) le slot
+
+-- and of a step that was begun so
+pub short_step : (begun more : Kv → Log → Step → Type 0) (entries same weight above needed : ℕ) (files : Files) → ((kv : Kv) (log : Log) (next : Step) → begun kv log next → more kv log next) → same ≡ entries → weight ≤ above
+    → IsStepTooShort begun same weight needed files → IsStepTooShort more entries above needed files
+short_step begun more entries same weight above needed files so is le step = record {
+  kv = step.kv;
+  log = step.log;
+  next = step.next;
+  is_begun = so step.kv step.log step.next step.is_begun;
+  short = subst (λ n. IsSlotTooShort (step_sizes n step.log step.kv step.next) above needed files) is
+      (short_slot (step_sizes same step.log step.kv step.next) (step_sizes same step.log step.kv step.next) weight above needed files (all_among (step_sizes same step.log step.kv step.next)) le step.short);
+}
+
+-- where no more is told
+pub heavier : (told more : Type 0) (short then : ℕ → Type 0) (most same : ℕ) (weight above : ℕ) (e : Error) → (told → more) → ((needed : ℕ) → told → short needed → then needed) → same ≡ most → weight ≤ above
+    → IsFullBy more short same weight e → IsFullBy told then most above e
+heavier told more short then most same weight above (DiskFull needed limit) so means is le full = (
   omega (arith, full.0),
   record { size = full.1.size; within = omega (arith, full.1.within); room = full.1.room },
-  λ t. short_slot weight above needed files le (full.2 (so t)),
+  λ t. means needed t (full.2 (so t)),
 )
-heavier told more files most same weight above OutOfMemory so is le full = tt
-heavier told more files most same weight above StorageIoError so is le full = tt
-heavier told more files most same weight above LinkFault so is le full = tt
-heavier told more files most same weight above (DataCorruption place offset) so is le full = tt
-heavier told more files most same weight above FeatureNotEnabled so is le full = tt
-heavier told more files most same weight above ProposeFailed so is le full = tt
-heavier told more files most same weight above (UnorderedChunk index) so is le full = tt
-heavier told more files most same weight above (Config place) so is le full = tt
-heavier told more files most same weight above StateMachineError so is le full = tt
+heavier told more short then most same weight above OutOfMemory so means is le full = tt
+heavier told more short then most same weight above StorageIoError so means is le full = tt
+heavier told more short then most same weight above LinkFault so means is le full = tt
+heavier told more short then most same weight above (DataCorruption place offset) so means is le full = tt
+heavier told more short then most same weight above FeatureNotEnabled so means is le full = tt
+heavier told more short then most same weight above ProposeFailed so means is le full = tt
+heavier told more short then most same weight above (UnorderedChunk index) so means is le full = tt
+heavier told more short then most same weight above (Config place) so means is le full = tt
+heavier told more short then most same weight above StateMachineError so means is le full = tt
 
 -- at the exit of a call that answers its callee's refusal
-pub heavier_out : {T : Type 0} (r : Result T Error) (e : Error) (told more : Type 0) (files : Files) (most same : ℕ) (weight above : ℕ) → IsErrAnd r (λ y. y ≡ e) → (told → more) → same ≡ most → weight ≤ above
-    → IsFullBy more files same weight e → IfErr r (IsFullBy told files most above)
-heavier_out (Ok x) e told more files most same weight above at so is le full = tt
-heavier_out (Err y) e told more files most same weight above at so is le full = heavier told more files most same weight above y so is le (subst (IsFullBy more files same weight) (sym at) full)
+pub heavier_out : {T : Type 0} (r : Result T Error) (e : Error) (told more : Type 0) (short then : ℕ → Type 0) (most same : ℕ) (weight above : ℕ) → IsErrAnd r (λ y. y ≡ e) → (told → more)
+    → ((needed : ℕ) → told → short needed → then needed) → same ≡ most → weight ≤ above → IsFullBy more short same weight e → IfErr r (IsFullBy told then most above)
+heavier_out (Ok x) e told more short then most same weight above at so means is le full = tt
+heavier_out (Err y) e told more short then most same weight above at so means is le full = heavier told more short then most same weight above y so means is le (subst (IsFullBy more short same weight) (sym at) full)
 
 -- of any refusal
-pub heavier_all : {T : Type 0} (r : Result T Error) (told more : Type 0) (files : Files) (most same : ℕ) (weight above : ℕ) → (told → more) → same ≡ most → weight ≤ above → IfErr r (IsFullBy more files same weight) → IfErr r (IsFullBy told files most above)
-heavier_all (Ok x) told more files most same weight above so is le full = tt
-heavier_all (Err e) told more files most same weight above so is le full = heavier told more files most same weight above e so is le full
-
--- a family's slot in use has too little room, or its other one
-slot_by : (family : Family) (files : Files) (most needed : ℕ) (adds drafts : ℕ → Type 0) → (family ≡ Snapshot → ⊥) → ((n : ℕ) → adds n → n ≤ most) → ((n : ℕ) → drafts n → n ≤ most)
-    → IsTooShort (slot_of family files) adds needed files ⊎ IsTooShort (other_slot (slot_of family files)) drafts needed files → IsSlotTooShort most needed files
-slot_by family files most needed adds drafts served added drafted (inl short) = record {
-  family = family;
-  served = served;
-  slot = slot_of family files;
-  of_family = inl refl;
-  short = record { size = short.size; meant = added short.size short.meant; room = short.room; short = short.short };
-}
-slot_by family files most needed adds drafts served added drafted (inr short) = record {
-  family = family;
-  served = served;
-  slot = other_slot (slot_of family files);
-  of_family = inr refl;
-  short = record { size = short.size; meant = drafted short.size short.meant; room = short.room; short = short.short };
-}
+pub heavier_all : {T : Type 0} (r : Result T Error) (told more : Type 0) (short then : ℕ → Type 0) (most same : ℕ) (weight above : ℕ) → (told → more) → ((needed : ℕ) → told → short needed → then needed) → same ≡ most → weight ≤ above
+    → IfErr r (IsFullBy more short same weight) → IfErr r (IsFullBy told then most above)
+heavier_all (Ok x) told more short then most same weight above so means is le full = tt
+heavier_all (Err e) told more short then most same weight above so means is le full = heavier told more short then most same weight above e so means is le full
 
 -- what a store was refused
-pub full_by : (told : Type 0) (family : Family) (files : Files) (most weight : ℕ) (adds drafts : ℕ → Type 0) (e : Error) → (family ≡ Snapshot → ⊥) → ((n : ℕ) → adds n → n ≤ weight) → ((n : ℕ) → drafts n → n ≤ weight)
-    → IsFullFor told family files weight adds drafts e → IsHeavy most weight e → IsFullBy told files most weight e
-full_by told family files most weight adds drafts (DiskFull needed limit) served added drafted full heavy = (heavy, full.0, λ t. slot_by family files weight needed adds drafts served added drafted (full.1 t))
-full_by told family files most weight adds drafts OutOfMemory served added drafted full heavy = tt
-full_by told family files most weight adds drafts StorageIoError served added drafted full heavy = tt
-full_by told family files most weight adds drafts LinkFault served added drafted full heavy = tt
-full_by told family files most weight adds drafts (DataCorruption place offset) served added drafted full heavy = tt
-full_by told family files most weight adds drafts FeatureNotEnabled served added drafted full heavy = tt
-full_by told family files most weight adds drafts ProposeFailed served added drafted full heavy = tt
-full_by told family files most weight adds drafts (UnorderedChunk index) served added drafted full heavy = tt
-full_by told family files most weight adds drafts (Config place) served added drafted full heavy = tt
-full_by told family files most weight adds drafts StateMachineError served added drafted full heavy = tt
+pub full_by : (told : Type 0) (family : Family) (files : Files) (most weight : ℕ) (adds drafts : ℕ → Type 0) (sizes : PayloadSizes) (e : Error)
+    → (told → (n : ℕ) → adds n → sizes.adds family n × (n ≤ weight)) → (told → (n : ℕ) → drafts n → sizes.drafts family n × (n ≤ weight))
+    → IsFullFor told family files weight adds drafts e → IsHeavy most weight e → IsFullBy told (λ needed. IsSlotTooShort sizes weight needed files) most weight e
+full_by told family files most weight adds drafts sizes (DiskFull needed limit) added drafted full heavy =
+    (heavy, full.0, λ t. record { family = family; short = slot_by family files needed adds drafts _ _ (added t) (drafted t) (full.1 t) })
+full_by told family files most weight adds drafts sizes OutOfMemory added drafted full heavy = tt
+full_by told family files most weight adds drafts sizes StorageIoError added drafted full heavy = tt
+full_by told family files most weight adds drafts sizes LinkFault added drafted full heavy = tt
+full_by told family files most weight adds drafts sizes (DataCorruption place offset) added drafted full heavy = tt
+full_by told family files most weight adds drafts sizes FeatureNotEnabled added drafted full heavy = tt
+full_by told family files most weight adds drafts sizes ProposeFailed added drafted full heavy = tt
+full_by told family files most weight adds drafts sizes (UnorderedChunk index) added drafted full heavy = tt
+full_by told family files most weight adds drafts sizes (Config place) added drafted full heavy = tt
+full_by told family files most weight adds drafts sizes StateMachineError added drafted full heavy = tt
+
+-- ---- what an entry writes
+
+-- of the map alone
+chunk_adds : (most : ℕ) (l : Log) (m : MapState) (e : LogEntry) (family : Family) (n : ℕ) → (chunk_sizes m (e ∷ [])).adds family n → (entry_sizes most l m (e ∷ [])).adds family n
+chunk_adds most l m e log_family n is = absurd is
+chunk_adds most l m e meta_family n is = absurd is
+chunk_adds most l m e state_family n is = is
+chunk_adds most l m e snapshot_family n is = absurd is
+
+chunk_drafts : (most : ℕ) (l : Log) (m : MapState) (e : LogEntry) (family : Family) (n : ℕ) → (chunk_sizes m (e ∷ [])).drafts family n → (entry_sizes most l m (e ∷ [])).drafts family n
+chunk_drafts most l m e log_family n is = absurd is
+chunk_drafts most l m e meta_family n is = absurd is
+chunk_drafts most l m e state_family n is = is
+chunk_drafts most l m e snapshot_family n is = absurd is
+
+pub chunk_among : (most : ℕ) (l : Log) (m : MapState) (e next : LogEntry) → e ≡ next → AreAmong (chunk_sizes m (e ∷ [])) (entry_sizes most l m (next ∷ []))
+chunk_among most l m e next is = subst (λ x. AreAmong (chunk_sizes m (e ∷ [])) (entry_sizes most l m (x ∷ []))) is (record { adds = chunk_adds most l m e; drafts = chunk_drafts most l m e })
+
+-- by another name
+pub entries_among : (most : ℕ) (l : Log) (m : MapState) (es same : List LogEntry) → es ≡ same → AreAmong (entry_sizes most l m es) (entry_sizes most l m same)
+entries_among most l m es same is = subst (λ x. AreAmong (entry_sizes most l m es) (entry_sizes most l m x)) is (all_among (entry_sizes most l m es))
+
+-- of the purge behind it
+trim_adds : (most : ℕ) (l : Log) (m : MapState) (e : LogEntry) (family : Family) (n : ℕ) → (trim_sizes most (changed l (Append (e ∷ []))) (map_applied m e).mark).adds family n → (entry_sizes most l m (e ∷ [])).adds family n
+trim_adds most l m e log_family n is = absurd is
+trim_adds most l m e meta_family n is = absurd is
+trim_adds most l m e state_family n is = absurd is
+trim_adds most l m e snapshot_family n is = absurd is
+
+trim_drafts : (most : ℕ) (l : Log) (m : MapState) (e : LogEntry) (family : Family) (n : ℕ) → (trim_sizes most (changed l (Append (e ∷ []))) (map_applied m e).mark).drafts family n → (entry_sizes most l m (e ∷ [])).drafts family n
+trim_drafts most l m e log_family n is = is
+trim_drafts most l m e meta_family n is = absurd is
+trim_drafts most l m e state_family n is = absurd is
+trim_drafts most l m e snapshot_family n is = absurd is
+
+pub trim_among : (most same : ℕ) (l mid : Log) (m : MapState) (mark : LogId) (e : LogEntry) → same ≡ most → mid ≡ changed l (Append (e ∷ [])) → mark ≡ (map_applied m e).mark
+    → AreAmong (trim_sizes same mid mark) (entry_sizes most l m (e ∷ []))
+trim_among most same l mid m mark e same_most joined same_mark =
+    subst (λ n. AreAmong (trim_sizes n mid mark) (entry_sizes most l m (e ∷ []))) (sym same_most)
+    (subst (λ x. AreAmong (trim_sizes most x mark) (entry_sizes most l m (e ∷ []))) (sym joined)
+    (subst (λ i. AreAmong (trim_sizes most (changed l (Append (e ∷ []))) i) (entry_sizes most l m (e ∷ []))) (sym same_mark)
+    (record { adds = trim_adds most l m e; drafts = trim_drafts most l m e })))
 
 -- ---- words
 

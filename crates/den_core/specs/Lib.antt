@@ -7,6 +7,7 @@ pub mod Joined
 pub mod Making
 pub mod Opening
 pub mod Parts
+pub mod PayloadSizes
 pub mod Refusals
 pub mod Spared
 pub mod Trimmed

@@ -14,7 +14,8 @@ use Rattle.den_model.specs.Step.{Step}
 use Rattle.den_codec.specs.declared.error.Error.{Error}
 use Rattle.den_journal.specs.Causes.{IsRefusal}
 use Rattle.den_journal.specs.Writes.{Faulted, GoesOn, DiskTells}
-use Rattle.den_core.specs.Full.{IsFullBy}
+use Rattle.den_core.specs.Full.{IsBegun, IsFullBy, IsSlotTooShort, IsStepTooShort}
+use Rattle.den_core.specs.PayloadSizes.{PayloadSizes}
 use Rattle.den_core.specs.Refusals.{FailsOrStays, HasJoined, IsServeRefusal}
 use Rattle.den_core.specs.Spared.{SparesFamily}
 
@@ -35,6 +36,10 @@ pub record Seen : Type 1 where
 -- the log holds no more entries than it may
 abbrev pub LogIsShort : Seen → Type 0
 LogIsShort s = length s.log.entries ≤ s.most
+
+-- one of the steps of a call was refused, of which nothing is sent yet
+abbrev pub IsCallTooShort : Seen → List Step → (most needed : ℕ) → Files → Type 0
+IsCallTooShort was steps = IsStepTooShort (IsBegun was.kv was.log steps) was.most
 
 -- each image at this moment gives a log of no more than so many entries
 pub record GivesShortLog (logs : Files → Option Log) (images : ℕ → Files → Type 0) (t most : ℕ) : Type 0 where
@@ -71,11 +76,11 @@ module _ {D : Type 0} (disk : Ghosts D) where
       pub stays_ready : was.ready → now.ready
       pub stays_at_rest : DiskTells disk old → was.rests (disk.content old) → now.rests (disk.content new)
 
-    -- A refusal of a call by which the weight rises so much at most. `written` is what was written where want of memory
-    -- left a stepper that has failed.
-    pub record IsStepRefused (says : Says) (rise : ℕ) (written : Type 0) (e : Error) : Type 0 where
+    -- A refusal of a call by which the weight rises so much at most. `short` is said of the room that a full disk is told, and
+    -- `written` is what was written where want of memory left a stepper that has failed.
+    pub record IsStepRefused (says : Says) (rise : ℕ) (short : (most needed : ℕ) → Files → Type 0) (written : Type 0) (e : Error) : Type 0 where
       pub cause : IsRefusal (Faulted disk old new) (disk.kind old).limit e
-      pub full : IsFullBy (DiskTells disk old × says.told) (disk.content new).reading (disk.kind old).limit (was.weight + rise) e
+      pub full : IsFullBy (DiskTells disk old × says.told) (λ needed. short (was.weight + rise) needed (disk.content new).reading) (disk.kind old).limit (was.weight + rise) e
       pub left : FailsOrStays now.failed IsUntouched written e
 
     -- a stepper that made these steps
@@ -88,13 +93,13 @@ module _ {D : Type 0} (disk : Ghosts D) where
 
     -- A call that makes these steps, of which nothing is sent yet. A crash inside leaves what some of them make. The
     -- snapshot's files are left alone.
-    pub record Makes {T : Type 0} (says : Says) (steps : List Step) (rise : ℕ) (written : Type 0) (result : Result T Error) : Type 0 where
+    pub record Makes {T : Type 0} (says : Says) (steps : List Step) (rise : ℕ) (short : (most needed : ℕ) → Files → Type 0) (written : Type 0) (result : Result T Error) : Type 0 where
       pub goes_on : GoesOn disk old new
       pub snapshot : DiskTells disk old → SparesFamily snapshot_family disk.content disk.moment disk.images old new
       pub same_most : now.most ≡ was.most
       pub survives : DiskTells disk old → says.told → Survives says.holds (disk.images new) (disk.moment old) (disk.moment new) [] was.kv steps
       pub done : OnOk result (Made steps rise)
-      pub refused : IfErr result (IsStepRefused says rise written)
+      pub refused : IfErr result (IsStepRefused says rise short written)
 
     -- A stepper of this durable part, in whose log are these entries more. Entries up to the last that was applied may have
     -- been purged behind them.
@@ -104,19 +109,20 @@ module _ {D : Type 0} (disk : Ghosts D) where
       pub weight : now.weight ≤ was.weight + rise
       pub rests : DiskTells disk old → now.rests (disk.content new)
 
-    -- A call that makes this durable part and appends these entries. A crash inside leaves the old part or the new
-    -- one. The snapshot's files are left alone.
-    pub record Changes {T : Type 0} (says : Says) (to : Durable) (entries : List LogEntry) (rise : ℕ) (result : Result T Error) : Type 0 where
+    -- A call that makes this durable part and appends these entries, by payloads of these sizes. A crash inside leaves the old
+    -- part or the new one. The snapshot's files are left alone.
+    pub record Changes {T : Type 0} (says : Says) (to : Durable) (entries : List LogEntry) (sizes : PayloadSizes) (rise : ℕ) (result : Result T Error) : Type 0 where
       pub goes_on : GoesOn disk old new
       pub snapshot : DiskTells disk old → SparesFamily snapshot_family disk.content disk.moment disk.images old new
       pub same_most : now.most ≡ was.most
       pub moves : DiskTells disk old → says.told → OldOrNew says.holds (disk.images new) (disk.moment old) (disk.moment new) was.kv.durable to
       pub done : OnOk result (Changed to entries rise)
-      pub refused : IfErr result (IsStepRefused says rise (HasJoined was.log entries now.log))
+      pub refused : IfErr result (IsStepRefused says rise (IsSlotTooShort sizes) (HasJoined was.log entries now.log))
 
-    -- A call that serves frames. A log that was short at entry is at Ok, and so is a state machine. A full disk is told by the weight that it comes to
-    -- at most. The link may refuse it too, where its count of faults rose. The snapshot's files are left alone.
-    pub record Serves {T : Type 0} (says : Says) (link_faulted : Type 0) (most : ℕ) (result : Result T Error) : Type 0 where
+    -- A call that serves frames. A log that was short at entry is at Ok, and so is a state machine. A full disk is told by the
+    -- weight that it comes to at most, of a step that was begun so. The link may refuse it too, where its count of faults rose.
+    -- The snapshot's files are left alone.
+    pub record Serves {T : Type 0} (says : Says) (link_faulted : Type 0) (begun : Kv → Log → Step → Type 0) (most : ℕ) (result : Result T Error) : Type 0 where
       pub goes_on : GoesOn disk old new
       pub snapshot : DiskTells disk old → SparesFamily snapshot_family disk.content disk.moment disk.images old new
       pub same_most : now.most ≡ was.most
@@ -125,4 +131,4 @@ module _ {D : Type 0} (disk : Ghosts D) where
       pub short : OnOk result (LogIsShort was → LogIsShort now)
       pub state_short : OnOk result (was.short → now.short)
       pub refused : IfErr result (IsServeRefusal (Faulted disk old new) link_faulted (disk.kind old).limit)
-      pub full : IfErr result (IsFullBy (DiskTells disk old × says.told) (disk.content new).reading (disk.kind old).limit most)
+      pub full : IfErr result (IsFullBy (DiskTells disk old × says.told) (λ needed. IsStepTooShort begun was.most most needed (disk.content new).reading) (disk.kind old).limit most)

@@ -1,6 +1,7 @@
 //! A chunk on a state machine whose files give its map.
 ghost use Rattle.std.specs.Prelude.{◌≡◌, ◌+◌, ◌≤◌, IsTrue, OnOk, IfOk, IfErr, length};
-ghost use Rattle.den_core.specs.Full.{IsFullBy};
+ghost use Rattle.den_core.specs.Full.{IsFullBy, IsSlotTooShort};
+ghost use Rattle.den_core.specs.PayloadSizes.{chunk_sizes};
 ghost use Rattle.den_disk.specs.declared.place.Family.TheVariants.{State as state_family};
 ghost use Rattle.den_disk.specs.Families.{OldOrNew, SparesImages, SparesOthers};
 ghost use Rattle.den_disk.specs.Goes.{Rose, DiskGoesOn};
@@ -33,7 +34,9 @@ pub(crate) fn apply_at_rest<D: Disk, M: StateMachine<D>>(
     ensures rests { OnOk result (IsTrue (D.kind disk.old).tells → AtRest (M.shown state.new) (M.map state.new) (D.content disk.new)) }
     ensures weight { OnOk result ((M.shown state.new).weight ≤ (M.shown state.old).weight + store_rise (entries_size chunk.now)) }
     ensures refused { IfErr result (λ e. IsChunkRefusal (M.settings state.old).leased (Rose (D.faults disk.old) (D.faults disk.new)) (D.kind disk.old).limit (M.map state.old).mark.index chunk.now e) }
-    ensures full { IfErr result (IsFullBy (IsTrue (D.kind disk.old).tells × M.holds.told) (D.content disk.new).reading (D.kind disk.old).limit ((M.shown state.old).weight + store_rise (entries_size chunk.now))) }
+    ensures full { IfErr result (IsFullBy (IsTrue (D.kind disk.old).tells × M.holds.told)
+        (λ needed. IsSlotTooShort (chunk_sizes (M.map state.old) chunk.now) ((M.shown state.old).weight + store_rise (entries_size chunk.now)) needed (D.content disk.new).reading)
+        (D.kind disk.old).limit ((M.shown state.old).weight + store_rise (entries_size chunk.now))) }
 {
     state.apply_chunk(disk, chunk)
 }

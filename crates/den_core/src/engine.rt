@@ -7,8 +7,10 @@ ghost use Rattle.den_model.specs.Image.{joined, term_of};
 ghost use Rattle.den_model.specs.Log.{changed, floor, last_index};
 ghost use Rattle.den_model.specs.declared.region.LogRegion.TheVariants.{Append};
 ghost use Rattle.den_model.specs.Step.{answer, has_ttl, next_entry};
+ghost use Rattle.den_core.specs.Full.{IsSlotTooShort};
 ghost use Rattle.den_core.specs.Making.{CanGoOn, Changes, LogIsShort, Makes};
 ghost use Rattle.den_core.specs.Parts.{durable_of, kv_of, raised_of, vote_of, HasFailed, IsCaughtUp, IsPlain, IsReady, AllRest};
+ghost use Rattle.den_core.specs.PayloadSizes.{entry_sizes, hard_state_sizes, map_of, trim_sizes};
 ghost use Rattle.den_core.specs.Trimmed.{logged_after, mark_of, trimmed};
 ghost use Rattle.den_core.specs.Weights.{commit_rise, frame_rise, raise_rise, trim_rise, write_rise};
 ghost use Rattle.den_state.specs.Machine.{AtRest, rest_hold};
@@ -109,7 +111,8 @@ fn raise<D: Disk, G: LogStore<D>, T: MetaStore<D>, M: StateMachine<D>>(
     requires rests { IsTrue (D.kind disk.old).tells → (⟦<Engine<G, T, M> as Stepper<D>>⟧.seen engine.old).rests (D.content disk.old) }
     requires room { term_of (T.shown engine.old.meta).value < 2 ^ 64 - 1 }
     ensures makes { Changes D.Disk (⟦<Engine<G, T, M> as Stepper<D>>⟧.seen engine.old) (⟦<Engine<G, T, M> as Stepper<D>>⟧.seen engine.new) disk.old disk.new ⟦<Engine<G, T, M> as Stepper<D>>⟧.says
-        (durable_of (Some (raised_of engine.old.running (T.shown engine.old.meta).value)) (M.map engine.old.state)) [] raise_rise result }
+        (durable_of (Some (raised_of engine.old.running (T.shown engine.old.meta).value)) (M.map engine.old.state)) []
+        (hard_state_sizes (raised_of engine.old.running (T.shown engine.old.meta).value)) raise_rise result }
     ensures raised { OnOk result ((T.shown engine.new.meta).value ≡ Some (raised_of engine.old.running (T.shown engine.old.meta).value)) }
     ensures log { (G.shown engine.new.log).value ≡ (G.shown engine.old.log).value }
     ensures map { M.map engine.new.state ≡ M.map engine.old.state }
@@ -140,7 +143,8 @@ fn commit<D: Disk, G: LogStore<D>, T: MetaStore<D>, M: StateMachine<D>>(
     requires no_ttl { has_ttl command ≡ false }
     ensures makes { Changes D.Disk (⟦<Engine<G, T, M> as Stepper<D>>⟧.seen engine.old) (⟦<Engine<G, T, M> as Stepper<D>>⟧.seen engine.new) disk.old disk.new ⟦<Engine<G, T, M> as Stepper<D>>⟧.says
         (applied (⟦<Engine<G, T, M> as Stepper<D>>⟧.seen engine.old).kv.durable (next_entry (⟦<Engine<G, T, M> as Stepper<D>>⟧.seen engine.old).kv time command))
-        (next_entry (⟦<Engine<G, T, M> as Stepper<D>>⟧.seen engine.old).kv time command ∷ []) (commit_rise command) result }
+        (next_entry (⟦<Engine<G, T, M> as Stepper<D>>⟧.seen engine.old).kv time command ∷ [])
+        (entry_sizes (⟦<Engine<G, T, M> as Stepper<D>>⟧.seen engine.old).most (⟦<Engine<G, T, M> as Stepper<D>>⟧.seen engine.old).log (map_of (⟦<Engine<G, T, M> as Stepper<D>>⟧.seen engine.old).kv.durable) (next_entry (⟦<Engine<G, T, M> as Stepper<D>>⟧.seen engine.old).kv time command ∷ [])) (commit_rise command) result }
     ensures succeeded { IfOk result (λ succeeded. succeeded ≡ succeeds (⟦<Engine<G, T, M> as Stepper<D>>⟧.seen engine.old).kv.durable command) }
     ensures logged { OnOk result ((G.shown engine.new.log).value
         ≡ changed (G.shown engine.old.log).value (Append (next_entry (⟦<Engine<G, T, M> as Stepper<D>>⟧.seen engine.old).kv time command ∷ []))) }
@@ -177,7 +181,7 @@ fn trim<D: Disk, G: LogStore<D>, T: MetaStore<D>, M: StateMachine<D>>(
     requires stands { CanGoOn D.Disk (⟦<Engine<G, T, M> as Stepper<D>>⟧.seen engine.old) disk.old }
     requires ends { HasTermOf (G.shown engine.old.log).value (M.map engine.old.state).mark }
     ensures makes { Makes D.Disk (⟦<Engine<G, T, M> as Stepper<D>>⟧.seen engine.old) (⟦<Engine<G, T, M> as Stepper<D>>⟧.seen engine.new) disk.old disk.new ⟦<Engine<G, T, M> as Stepper<D>>⟧.says
-        [] trim_rise ((G.shown engine.new.log).value ≡ (G.shown engine.old.log).value) result }
+        [] trim_rise (IsSlotTooShort (trim_sizes engine.old.most (G.shown engine.old.log).value (M.map engine.old.state).mark)) ((G.shown engine.new.log).value ≡ (G.shown engine.old.log).value) result }
     ensures trimmed { OnOk result ((G.shown engine.new.log).value ≡ trimmed engine.old.most (M.map engine.old.state).mark (G.shown engine.old.log).value) }
     ensures short { OnOk result (LogIsShort (⟦<Engine<G, T, M> as Stepper<D>>⟧.seen engine.new)) }
     ensures state { engine.new.state ≡ engine.old.state }
@@ -211,7 +215,8 @@ fn commit_and_trim<D: Disk, G: LogStore<D>, T: MetaStore<D>, M: StateMachine<D>>
     requires no_ttl { has_ttl command ≡ false }
     ensures makes { Changes D.Disk (⟦<Engine<G, T, M> as Stepper<D>>⟧.seen engine.old) (⟦<Engine<G, T, M> as Stepper<D>>⟧.seen engine.new) disk.old disk.new ⟦<Engine<G, T, M> as Stepper<D>>⟧.says
         (applied (⟦<Engine<G, T, M> as Stepper<D>>⟧.seen engine.old).kv.durable (next_entry (⟦<Engine<G, T, M> as Stepper<D>>⟧.seen engine.old).kv time command))
-        (next_entry (⟦<Engine<G, T, M> as Stepper<D>>⟧.seen engine.old).kv time command ∷ []) (write_rise command) result }
+        (next_entry (⟦<Engine<G, T, M> as Stepper<D>>⟧.seen engine.old).kv time command ∷ [])
+        (entry_sizes (⟦<Engine<G, T, M> as Stepper<D>>⟧.seen engine.old).most (⟦<Engine<G, T, M> as Stepper<D>>⟧.seen engine.old).log (map_of (⟦<Engine<G, T, M> as Stepper<D>>⟧.seen engine.old).kv.durable) (next_entry (⟦<Engine<G, T, M> as Stepper<D>>⟧.seen engine.old).kv time command ∷ [])) (write_rise command) result }
     ensures succeeded { IfOk result (λ succeeded. succeeded ≡ succeeds (⟦<Engine<G, T, M> as Stepper<D>>⟧.seen engine.old).kv.durable command) }
     ensures trimmed { OnOk result ((⟦<Engine<G, T, M> as Stepper<D>>⟧.seen engine.new).log
         ≡ logged_after (⟦<Engine<G, T, M> as Stepper<D>>⟧.seen engine.old).most (mark_of (⟦<Engine<G, T, M> as Stepper<D>>⟧.seen engine.new).kv.durable) (⟦<Engine<G, T, M> as Stepper<D>>⟧.seen engine.old).log (next_entry (⟦<Engine<G, T, M> as Stepper<D>>⟧.seen engine.old).kv time command ∷ [])) }
@@ -237,7 +242,8 @@ fn answer<D: Disk, G: LogStore<D>, T: MetaStore<D>, M: StateMachine<D>>(
     requires stands { CanGoOn D.Disk (⟦<Engine<G, T, M> as Stepper<D>>⟧.seen engine.old) disk.old }
     requires time { 1 ≤ time }
     ensures makes { Changes D.Disk (⟦<Engine<G, T, M> as Stepper<D>>⟧.seen engine.old) (⟦<Engine<G, T, M> as Stepper<D>>⟧.seen engine.new) disk.old disk.new ⟦<Engine<G, T, M> as Stepper<D>>⟧.says
-        (answer (⟦<Engine<G, T, M> as Stepper<D>>⟧.seen engine.old).kv time frame).after.durable (answer (⟦<Engine<G, T, M> as Stepper<D>>⟧.seen engine.old).kv time frame).logged (frame_rise frame) result }
+        (answer (⟦<Engine<G, T, M> as Stepper<D>>⟧.seen engine.old).kv time frame).after.durable (answer (⟦<Engine<G, T, M> as Stepper<D>>⟧.seen engine.old).kv time frame).logged
+        (entry_sizes (⟦<Engine<G, T, M> as Stepper<D>>⟧.seen engine.old).most (⟦<Engine<G, T, M> as Stepper<D>>⟧.seen engine.old).log (map_of (⟦<Engine<G, T, M> as Stepper<D>>⟧.seen engine.old).kv.durable) (answer (⟦<Engine<G, T, M> as Stepper<D>>⟧.seen engine.old).kv time frame).logged) (frame_rise frame) result }
     ensures answered { IfOk result (λ reply. answer (⟦<Engine<G, T, M> as Stepper<D>>⟧.seen engine.old).kv time frame ≡ record {
       after = (⟦<Engine<G, T, M> as Stepper<D>>⟧.seen engine.new).kv;
       reply = Some reply;

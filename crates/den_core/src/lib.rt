@@ -19,7 +19,8 @@
 //!    purges it up to the map's mark where its indices run over more, and only there (`trimmed` in specs/Trimmed.antt);
 //!    that moves nothing that the files stand for. At the end of a run the log that the files give is as short:
 //!    `GivesShortLog`.
-//! 7. A full disk is told the room that one slot would need: `IsFullBy` in specs/Full.antt.
+//! 7. A full disk is told the room that one slot would need for a payload that the refused step writes: `IsFullBy` and
+//!    `IsStepTooShort` in specs/Full.antt, with the sizes of what each step writes in specs/PayloadSizes.antt.
 #![tactic(auto)]
 
 mod applying;

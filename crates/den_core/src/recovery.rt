@@ -1,7 +1,8 @@
 //! The engine over stores as they were opened.
 ghost use Rattle.std.specs.Prelude.{◌≡◌, ◌==◌, ◌||◌, ◌^◌, ◌-◌, ◌+◌, IsTrue, [], Option, Some, None, OnOk, IfOk, IfErr, IsSome, IfNone, ◌<◌, ◌≤◌, true, false};
 ghost use Rattle.den_codec.specs.declared.error.Error.TheVariants.{OutOfMemory};
-ghost use Rattle.den_core.specs.Full.{IsFullBy};
+ghost use Rattle.den_core.specs.Full.{IsFullBy, IsSlotTooShort};
+ghost use Rattle.den_core.specs.PayloadSizes.{chunk_sizes};
 ghost use Rattle.den_disk.specs.declared.place.Family.TheVariants.{Snapshot as snapshot_family, State as state_family};
 ghost use Rattle.den_disk.specs.Families.{OldOrNew, SparesImages, SparesOthers};
 ghost use Rattle.den_disk.specs.Goes.{Rose, DiskGoesOn};
@@ -143,7 +144,9 @@ fn apply_all<D: Disk, M: StateMachine<D>>(
     ensures rests { OnOk result (IsTrue (D.kind disk.old).tells → AtRest (M.shown state.new) (M.map state.new) (D.content disk.new)) }
     ensures weight { OnOk result ((M.shown state.new).weight ≤ (M.shown state.old).weight + store_rise (entries_size entries.now)) }
     ensures refused { IfErr result (λ e. IsRefusal (Rose (D.faults disk.old) (D.faults disk.new)) (D.kind disk.old).limit e) }
-    ensures full { IfErr result (IsFullBy (IsTrue (D.kind disk.old).tells × M.holds.told) (D.content disk.new).reading (D.kind disk.old).limit ((M.shown state.old).weight + store_rise (entries_size entries.now))) }
+    ensures full { IfErr result (IsFullBy (IsTrue (D.kind disk.old).tells × M.holds.told)
+        (λ needed. IsSlotTooShort (chunk_sizes (M.map state.old) entries.now) ((M.shown state.old).weight + store_rise (entries_size entries.now)) needed (D.content disk.new).reading)
+        (D.kind disk.old).limit ((M.shown state.old).weight + store_rise (entries_size entries.now))) }
 {
     if entries.is_empty() {
         return Ok(());
@@ -184,7 +187,9 @@ fn catch_up<D: Disk, G: LogStore<D>, T: MetaStore<D>, M: StateMachine<D>>(
     ensures rests { IfOk result (λ engine. IsTrue (D.kind disk.old).tells → (⟦<Engine<G, T, M> as Stepper<D>>⟧.seen engine).rests (D.content disk.new)) }
     ensures weight { IfOk result (λ engine. (⟦<Engine<G, T, M> as Stepper<D>>⟧.seen engine).weight ≤ (G.shown log).weight + (T.shown meta).weight + (M.shown state).weight + store_rise (entries_size entries.now)) }
     ensures refused { IfErr result (λ e. IsRefusal (Rose (D.faults disk.old) (D.faults disk.new)) (D.kind disk.old).limit e) }
-    ensures full { IfErr result (IsFullBy (IsTrue (D.kind disk.old).tells × ⟦<Engine<G, T, M> as Stepper<D>>⟧.says.told) (D.content disk.new).reading (D.kind disk.old).limit ((G.shown log).weight + (T.shown meta).weight + (M.shown state).weight + store_rise (entries_size entries.now))) }
+    ensures full { IfErr result (IsFullBy (IsTrue (D.kind disk.old).tells × ⟦<Engine<G, T, M> as Stepper<D>>⟧.says.told)
+        (λ needed. IsSlotTooShort (chunk_sizes (M.map state) entries.now) ((G.shown log).weight + (T.shown meta).weight + (M.shown state).weight + store_rise (entries_size entries.now)) needed (D.content disk.new).reading)
+        (D.kind disk.old).limit ((G.shown log).weight + (T.shown meta).weight + (M.shown state).weight + store_rise (entries_size entries.now))) }
 {
     let mut state = state;
     apply_all(&mut state, disk, entries)?;
@@ -227,8 +232,10 @@ pub fn recover<D: Disk, G: LogStore<D>, T: MetaStore<D>, M: StateMachine<D>>(
     ensures unrefused { OnOk result (opening_refusal (G.place log) (G.shown log).value (T.shown meta).value (M.map state) ≡ None) }
     ensures refused { IfErr result (λ e. IsOpeningFailure (Rose (D.faults disk.old) (D.faults disk.new)) (D.kind disk.old).limit
         (opening_refusal (G.place log) (G.shown log).value (T.shown meta).value (M.map state)) e) }
-    ensures full { IfErr result (IsFullBy (IsTrue (D.kind disk.old).tells × ⟦<Engine<G, T, M> as Stepper<D>>⟧.says.told) (D.content disk.new).reading (D.kind disk.old).limit
-        ((G.shown log).weight + (T.shown meta).weight + (M.shown state).weight + store_rise (entries_size (above (M.map state).mark.index (G.shown log).value.entries)))) }
+    ensures full { IfErr result (IsFullBy (IsTrue (D.kind disk.old).tells × ⟦<Engine<G, T, M> as Stepper<D>>⟧.says.told)
+        (λ needed. IsSlotTooShort (chunk_sizes (M.map state) (above (M.map state).mark.index (G.shown log).value.entries))
+        ((G.shown log).weight + (T.shown meta).weight + (M.shown state).weight + store_rise (entries_size (above (M.map state).mark.index (G.shown log).value.entries))) needed (D.content disk.new).reading)
+        (D.kind disk.old).limit ((G.shown log).weight + (T.shown meta).weight + (M.shown state).weight + store_rise (entries_size (above (M.map state).mark.index (G.shown log).value.entries)))) }
     ensures untouched { IsSome (opening_refusal (G.place log) (G.shown log).value (T.shown meta).value (M.map state)) → disk.new ≡ disk.old }
 {
     let mark = state.last_applied().index;

@@ -1,11 +1,12 @@
 //! The loop that serves frames: each is a step, and what the step answers is sent behind it.
 ghost use Rattle.std.specs.Prelude.{◌≡◌, ◌<◌, ◌≤◌, ◌^◌, ◌+◌, ◌-◌, ◌++◌, ℕ, List, drop, IsTrue, OnOk, IfErr, length};
 ghost use Rattle.den_disk.specs.Goes.{Rose, IsPrefix, stamped, added, LinkGoesOn, ClockGoesOn};
-ghost use Rattle.den_model.specs.Crash.{Survives, IsWhole, IsDone, IsAnswered, IsServed, Tells};
+ghost use Rattle.den_model.specs.Crash.{Survives, IsWhole, IsDone, IsAnswered, IsServed, Tells, bytes_of};
 ghost use Rattle.den_model.specs.Frames.{framed, frames};
 ghost use Rattle.den_model.specs.Plan.{turn, turns, plan};
 ghost use Rattle.den_core.specs.Answers.{frames_of};
 ghost use Rattle.den_core.specs.Early.{EarlyIsRefused};
+ghost use Rattle.den_core.specs.Full.{IsBegun, IsReached};
 ghost use Rattle.den_core.specs.Making.{CanGoOn, GivesShortLog, Serves};
 ghost use Rattle.den_core.specs.Refusals.{IsLinkRefusal};
 ghost use Rattle.den_core.specs.Weights.{frame_rise, run_weight, served_weight};
@@ -98,6 +99,8 @@ fn serve_frame<D: Disk, L: Link, S: Stepper<D>>(
         → IsWhole (added (L.sent link.old) (L.sent link.new)) (S.seen stepper.old).kv (S.seen stepper.old).log (turn (S.seen stepper.old).kv frame time) (S.seen stepper.new).kv (S.seen stepper.new).log) }
     ensures weight { OnOk result ((S.seen stepper.new).weight ≤ (S.seen stepper.old).weight + frame_rise frame) }
     ensures serves { Serves D.Disk (S.seen stepper.old) (S.seen stepper.new) disk.old disk.new S.says (Rose (L.faults link.old) (L.faults link.new))
+        (λ kv log next. IsBegun (S.seen stepper.old).kv (S.seen stepper.old).log (turn (S.seen stepper.old).kv frame time) kv log next
+        × (IsTrue (L.tells link.old) → L.sent link.new ≡ L.sent link.old))
         ((S.seen stepper.old).weight + frame_rise frame) result }
 {
     let out = stepper.step(disk, frame, time)?;
@@ -131,6 +134,9 @@ pub fn serve<D: Disk, L: Link, C: Clock, S: Stepper<D>>(
         (added (L.sent link.old) (L.sent link.new)) (S.seen stepper.old).kv (S.seen stepper.old).log
         (turns (S.seen stepper.old).kv (frames limit (L.left link.old)) (added (C.readings clock.old) (C.readings clock.new))) (S.seen stepper.new).kv (S.seen stepper.new).log) }
     ensures serves { Serves D.Disk (S.seen stepper.old) (S.seen stepper.new) disk.old disk.new S.says (Rose (L.faults link.old) (L.faults link.new))
+        (λ kv log next. Tells (D.kind disk.old).tells (L.tells link.old) (C.tells clock.new)
+        → IsReached (S.seen stepper.old).kv (S.seen stepper.old).log (turns (S.seen stepper.old).kv (frames limit (L.left link.old)) (added (C.readings clock.old) (C.readings clock.new)))
+        (bytes_of (added (L.sent link.old) (L.sent link.new))) kv log next)
         (served_weight (S.seen stepper.old).weight (L.taken link.new - L.taken link.old)) result }
 {
     let mut reader = FrameReader::new(alloc, limit);
@@ -175,6 +181,9 @@ pub fn run_from<D: Disk, L: Link, C: Clock, S: Stepper<D>>(
     ensures short { OnOk result (IsTrue (D.kind disk.old).tells → S.says.told
         → GivesShortLog S.says.logs (D.images disk.new) (D.moment disk.new) (S.seen stepper.old).most) }
 
+    // Few records follow the last checkpoint of the state machine.
+    ensures state_short { OnOk result (S.seen stepper.new).short }
+
     // At every exit, and after a crash at any moment, inside a call too, the disk stands for the state after a prefix
     // of the plan that holds each step of which a byte was sent.
     ensures any_moment { Tells (D.kind disk.old).tells (L.tells link.old) (C.tells clock.new) → S.says.told
@@ -184,6 +193,9 @@ pub fn run_from<D: Disk, L: Link, C: Clock, S: Stepper<D>>(
     ensures clock { ClockGoesOn C.tells C.readings clock.old clock.new }
     ensures counted { IsTrue (L.tells link.old) → L.taken link.new + length (L.left link.new) ≡ L.taken link.old + length (L.left link.old) }
     ensures serves { Serves D.Disk (S.seen stepper.old) (S.seen stepper.new) disk.old disk.new S.says (Rose (L.faults link.old) (L.faults link.new))
+        (λ kv log next. Tells (D.kind disk.old).tells (L.tells link.old) (C.tells clock.new)
+        → IsReached (S.seen stepper.old).kv (S.seen stepper.old).log (plan (S.seen stepper.old).kv (frames limit (L.left link.old)) (added (C.readings clock.old) (C.readings clock.new)))
+        (bytes_of (added (L.sent link.old) (L.sent link.new))) kv log next)
         (run_weight (S.seen stepper.old).weight (L.taken link.new - L.taken link.old)) result }
 {
     let time = clock.now().max(1);

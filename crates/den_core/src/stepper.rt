@@ -2,7 +2,7 @@
 ghost use Rattle.std.specs.Prelude.{◌≡◌, ◌↔◌, ◌<◌, ◌≤◌, ◌^◌, ◌+◌, ◌-◌, IsTrue, OnOk, IfOk};
 ghost use Rattle.den_model.specs.Plan.{logged, output, opening, turn};
 ghost use Rattle.den_core.specs.Answers.{frames_of};
-ghost use Rattle.den_core.specs.Making.{Agrees, CanGoOn, LogIsShort, Makes, Says, Seen};
+ghost use Rattle.den_core.specs.Making.{Agrees, CanGoOn, IsCallTooShort, LogIsShort, Makes, Says, Seen};
 ghost use Rattle.den_core.specs.Refusals.{HasJoined};
 ghost use Rattle.den_core.specs.Trimmed.{logged_after, mark_of};
 ghost use Rattle.den_core.specs.Weights.{frame_rise, opening_rise};
@@ -34,6 +34,7 @@ pub trait Stepper<D: Disk>: Drop {
         requires term { (seen self.old).kv.durable.term < 2 ^ 64 - 1 }
         requires index { (seen self.old).kv.durable.last_index < 2 ^ 64 - 1 }
         ensures makes { Makes D.Disk (seen self.old) (seen self.new) disk.old disk.new says (opening (seen self.old).kv time) opening_rise
+            (IsCallTooShort (seen self.old) (opening (seen self.old).kv time))
             ((seen self.new).kv.durable.term ≡ (seen self.old).kv.durable.term + 1) result }
         ensures log { OnOk result ((seen self.new).log
             ≡ logged_after (seen self.old).most (mark_of (seen self.new).kv.durable) (seen self.old).log (logged (seen self.old).kv (opening (seen self.old).kv time))) }
@@ -47,6 +48,7 @@ pub trait Stepper<D: Disk>: Drop {
         requires stands { CanGoOn D.Disk (seen self.old) disk.old }
         requires time { 1 ≤ time }
         ensures makes { Makes D.Disk (seen self.old) (seen self.new) disk.old disk.new says (turn (seen self.old).kv frame time) (frame_rise frame)
+            (IsCallTooShort (seen self.old) (turn (seen self.old).kv frame time))
             (HasJoined (seen self.old).log (logged (seen self.old).kv (turn (seen self.old).kv frame time)) (seen self.new).log) result }
         ensures log { OnOk result ((seen self.new).log
             ≡ logged_after (seen self.old).most (mark_of (seen self.new).kv.durable) (seen self.old).log (logged (seen self.old).kv (turn (seen self.old).kv frame time))) }

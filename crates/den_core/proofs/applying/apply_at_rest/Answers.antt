@@ -100,4 +100,4 @@ returns-clause-full g c =
     let t = c.apply_chunk.new.self in
     let d = c.args.disk.now in
     let e = c.apply_chunk.ensures in
-    chunk_full D M.holds (M.shown s) (M.shown t) d c.apply_chunk.new.disk (M.settings s).leased (M.map s).mark.index c.args.chunk.now _ c.apply_chunk.result e.turned_away e.writes (λ n is. g.met.M.StateMachine.light s c.args.chunk.now n is)
+    chunk_full D M.holds (M.shown s) (M.shown t) d c.apply_chunk.new.disk (M.settings s).leased (M.map s).mark.index c.args.chunk.now _ c.apply_chunk.result e.turned_away e.writes (M.map s) (λ told. (c.requires.rests told).stored) (λ n is. g.met.M.StateMachine.light s c.args.chunk.now n is)

@@ -7,13 +7,15 @@ use Rattle.std.proofs.Common.{◌+◌, ◌≤◌, IsTrue, IfErr, rules, arith, a
 use Rattle.den_core.proofs.Refusing.{at_exit, if_err_three, left_weaker, memory_stays, not_done}
 use Rattle.den_core.proofs.GoesOn.{disk_same}
 use Rattle.den_core.proofs.Steps.{moves_as}
-use Rattle.den_core.proofs.Weighing.{heavier}
-use Rattle.den_core.specs.Full.{IsFullBy}
+use Rattle.den_core.proofs.Weighing.{entries_among, heavier, short_slot}
+use Rattle.den_core.specs.Full.{IsFullBy, IsSlotTooShort}
+use Rattle.den_core.specs.Parts.{kv_of}
+use Rattle.den_core.specs.PayloadSizes.{entry_sizes}
 use Rattle.den_core.specs.Weights.{asked_rise, frame_rise}
 use Rattle.den_disk.specs.Goes.{Rose}
 use Rattle.den_journal.specs.Causes.{IsRefusal}
 use Rattle.den_model.specs.Grown.{appended, IsPurgedUpTo}
-use Rattle.den_model.specs.Step.{Outcome}
+use Rattle.den_model.specs.Step.{Outcome, answer}
 use Rattle.den_core.specs.Trimmed.{logged_after}
 use Rattle.den_core.proofs.engine.answer.Goals as goal
 use Rattle.den_state.specs.Machine.{AtRest, rest_hold}
@@ -22,7 +24,11 @@ use Rattle.den_state.specs.Machine.{AtRest, rest_hold}
 pub returns-in_err-command-clause-makes : goal.returns-in_err-command-clause-makes
 returns-in_err-command-clause-makes g c =
     let cause : IfErr c.from_residual.result (λ e. IsRefusal (Rose (g.D.Disk.faults c.args.disk.now) (g.D.Disk.faults c.args.disk.now)) (g.D.Disk.kind c.args.disk.now).limit e) = search rules in
-    let full : IfErr c.from_residual.result (λ e. IsFullBy (IsTrue (g.D.Disk.kind c.args.disk.now).tells × (g.G.LogStore.holds.told × g.T.MetaStore.holds.told × g.M.StateMachine.holds.told)) (g.D.Disk.content c.args.disk.now).reading (g.D.Disk.kind c.args.disk.now).limit ((g.G.LogStore.shown c.args.engine.now.log).weight + (g.T.MetaStore.shown c.args.engine.now.meta).weight + (g.M.StateMachine.shown c.args.engine.now.state).weight + frame_rise c.args.frame) e) = search rules in
+    let full : IfErr c.from_residual.result (λ e. IsFullBy (IsTrue (g.D.Disk.kind c.args.disk.now).tells × (g.G.LogStore.holds.told × g.T.MetaStore.holds.told × g.M.StateMachine.holds.told))
+    (λ needed. IsSlotTooShort (entry_sizes c.args.engine.now.most (g.G.LogStore.shown c.args.engine.now.log).value (g.M.StateMachine.map c.args.engine.now.state)
+    (answer (kv_of (g.T.MetaStore.shown c.args.engine.now.meta).value (g.M.StateMachine.map c.args.engine.now.state) c.args.engine.now.running) c.args.time c.args.frame).logged)
+    ((g.G.LogStore.shown c.args.engine.now.log).weight + (g.T.MetaStore.shown c.args.engine.now.meta).weight + (g.M.StateMachine.shown c.args.engine.now.state).weight + frame_rise c.args.frame) needed (g.D.Disk.content c.args.disk.now).reading)
+    (g.D.Disk.kind c.args.disk.now).limit ((g.G.LogStore.shown c.args.engine.now.log).weight + (g.T.MetaStore.shown c.args.engine.now.meta).weight + (g.M.StateMachine.shown c.args.engine.now.state).weight + frame_rise c.args.frame) e) = search rules in
     record {
       goes_on = disk_same _ _ _ _ _;
       same_most = refl;
@@ -88,7 +94,9 @@ returns-in_err-succeeded-in-Commit-clause-makes g c =
       done = not_done c.from_residual-in_err-succeeded-in-Commit.result c.in_err-succeeded-in-Commit.field-0.0 _ c.from_residual-in_err-succeeded-in-Commit.ensures.1;
       refused = at_exit c.from_residual-in_err-succeeded-in-Commit.result c.in_err-succeeded-in-Commit.field-0.0 _ c.from_residual-in_err-succeeded-in-Commit.ensures.1 (record {
         cause = makes.refused.cause;
-        full = heavier _ _ _ _ _ _ _ c.in_err-succeeded-in-Commit.field-0.0 (λ t. t) refl (omega (arith, subst (λ asked. asked_rise asked ≤ frame_rise c.args.frame) c.in-Commit.is c.in_ok-command.ensures.rise)) makes.refused.full;
+        full = heavier _ _ _ _ _ _ _ _ c.in_err-succeeded-in-Commit.field-0.0 (λ t. t)
+            (λ needed t short. short_slot _ _ _ _ needed _ (entries_among engine.most (g.G.LogStore.shown engine.log).value (g.M.StateMachine.map engine.state) _ _ (ap (λ o. o.logged) is))
+            (omega (arith, subst (λ asked. asked_rise asked ≤ frame_rise c.args.frame) c.in-Commit.is c.in_ok-command.ensures.rise)) short) refl (omega (arith, subst (λ asked. asked_rise asked ≤ frame_rise c.args.frame) c.in-Commit.is c.in_ok-command.ensures.rise)) makes.refused.full;
         left = left_weaker c.in_err-succeeded-in-Commit.field-0.0 _ _ _ _ (subst (λ es. HasJoined (g.G.LogStore.shown engine.log).value es (g.G.LogStore.shown c.commit_and_trim.new.engine.log).value) (ap (λ o. o.logged) is)) makes.refused.left;
       });
     }

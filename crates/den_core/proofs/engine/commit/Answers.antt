@@ -1,4 +1,4 @@
-use Rattle.std.proofs.Common.{IsTrue, IfErr, rules, [], ◌∷◌, ◌+◌, Some, inl, inr, refl, sym, ap, subst, ◌∙◌, arith}
+use Rattle.std.proofs.Common.{◌≡◌, length, IsTrue, IfErr, rules, [], ◌∷◌, ◌+◌, Some, inl, inr, refl, sym, ap, subst, ◌∙◌, arith}
 use Rattle.den_disk.specs.Families.{OldOrNew}
 use Rattle.den_journal.proofs.Moving.{old_or_new}
 use Rattle.den_disk.specs.Files.{Kind}
@@ -6,14 +6,18 @@ use Rattle.den_model.specs.declared.region.LogRegion.TheVariants.{Append}
 use Rattle.den_model.specs.Image.{joined}
 use Rattle.den_model.specs.Log.{changed}
 use Rattle.den_core.specs.Joined.{durable_is}
-use Rattle.den_core.specs.Parts.{durable_of}
+use Rattle.den_core.specs.Parts.{durable_of, kv_of}
 use Rattle.den_core.proofs.GoesOn.{disk_twice}
 use Rattle.den_disk.specs.Goes.{Rose}
 use Rattle.den_journal.specs.Causes.{IsRefusal}
 use Rattle.den_core.proofs.Durables.{logged_is, applied_again, applied_is, applied_next, caught_up_now, next_index, next_is}
 use Rattle.den_core.proofs.Spared.{gives_now, spared, apart_own, log_moves, state_moves, moves_then, meta_log, state_log, log_state, meta_state, snapshot_log, snapshot_state, spares_by, spares_twice}
 use Rattle.den_store.specs.Folds.{log_rises}
-use Rattle.den_core.proofs.Weighing.{entry_is, full_by, heavier, heavier_out}
+use Rattle.den_core.specs.PayloadSizes.{entry_sizes}
+use Rattle.den_core.proofs.Weighing.{chunk_among, entry_is, full_by, heavier, heavier_out, same_short, short_slot}
+use Rattle.den_model.specs.Entries.{LogEntry}
+use Rattle.den_model.specs.Spelling.{log_region_word}
+use Rattle.den_model.specs.Step.{next_entry}
 use Rattle.den_core.proofs.Refusing.{at_exit, fails_behind, fails_or_stays, if_err_three, not_done, untouched_only}
 use Rattle.den_core.specs.Parts.{IsCaughtUp}
 use Rattle.den_core.proofs.Trimming.{ends_with}
@@ -51,8 +55,18 @@ returns-in_err-persist_entries-clause-makes g c =
       done = not_done c.from_residual.result c.in_err-persist_entries.field-0.0 _ c.from_residual.ensures.1;
       refused = at_exit c.from_residual.result c.in_err-persist_entries.field-0.0 _ c.from_residual.ensures.1 (record {
         cause = writes.refused.cause;
-        full = heavier _ _ _ _ _ _ _ c.in_err-persist_entries.field-0.0 (λ t. (t.0, t.1.0)) refl (omega (arith, entry_is c.of.result _ _ _ c.args.command c.of.ensures))
-            (full_by _ _ _ _ _ _ _ c.in_err-persist_entries.field-0.0 (λ is. snapshot_log (sym is)) (λ n is. omega (arith, is, log_rises (Append (c.of.result ∷ [])))) (λ n never. absurd never) writes.refused.full writes.refused.heavy);
+        full =
+            let engine = c.args.engine.now in
+            let l = (g.G.LogStore.shown engine.log).value in
+            let h = (g.T.MetaStore.shown engine.meta).value in
+            let s = g.M.StateMachine.map engine.state in
+            let is = next_is h s engine.running _ _ c.args.time c.args.command c.of.result c.of.ensures (ap (λ i. i.index) c.last_applied-index.ensures) c.current_term-term.ensures in
+            let sizes = entry_sizes engine.most l s (next_entry (kv_of h s engine.running) c.args.time c.args.command ∷ []) in
+            heavier _ _ _ _ _ _ _ _ c.in_err-persist_entries.field-0.0 (λ t. (t.0, t.1.0)) (λ needed t short. same_short sizes _ _ needed _ (omega (arith, entry_is c.of.result _ _ _ c.args.command c.of.ensures)) short) refl
+            (omega (arith, entry_is c.of.result _ _ _ c.args.command c.of.ensures))
+            (full_by _ _ _ _ _ _ _ sizes c.in_err-persist_entries.field-0.0
+            (λ t n size. (subst (λ (x : LogEntry). n ≡ length (log_region_word (Append (x ∷ [])))) is size, omega (arith, size, log_rises (Append (c.of.result ∷ [])))))
+            (λ t n never. absurd never) writes.refused.full writes.refused.heavy);
         left = let D = g.D.Disk in
             let engine = c.args.engine.now in
             let refused = c.in_err-persist_entries.ensures.writes.refused in
@@ -141,8 +155,14 @@ returns-in_err-results-clause-makes g c =
           (apply.own then held.2)));
       done = not_done c.from_residual-in_err-results.result c.in_err-results.field-0.0 _ c.from_residual-in_err-results.ensures.1;
       refused = if_err_three c.from_residual-in_err-results.result _ _ _ _ (λ e cause full left. record { cause = cause; full = full; left = left }) cause
-          (heavier_out c.from_residual-in_err-results.result c.in_err-results.field-0.0 _ _ _ _ _ _ _ c.from_residual-in_err-results.ensures.1
+          (heavier_out c.from_residual-in_err-results.result c.in_err-results.field-0.0 _ _ _ _ _ _ _ _ c.from_residual-in_err-results.ensures.1
           (λ t. (subst (λ k. IsTrue k.tells) (sym c.persist_entries.ensures.writes.goes_on.same) t.0, t.1.2))
+          (λ needed t short.
+          let engine = c.args.engine.now in
+          let h = (g.T.MetaStore.shown engine.meta).value in
+          let s = g.M.StateMachine.map engine.state in
+          let is = next_is h s engine.running _ _ c.args.time c.args.command c.of.result c.of.ensures (ap (λ i. i.index) c.last_applied-index.ensures) c.current_term-term.ensures in
+          short_slot _ _ _ _ needed _ (chunk_among engine.most (g.G.LogStore.shown engine.log).value s c.of.result _ is) (omega (arith, entry_is c.of.result _ _ _ c.args.command c.of.ensures)) short)
           (ap (λ (k : Kind). k.limit) c.persist_entries.ensures.writes.goes_on.same)
           (omega (arith, entry_is c.of.result _ _ _ c.args.command c.of.ensures)) c.in_err-results.ensures.full)
           (let engine = c.args.engine.now in

@@ -1,11 +1,16 @@
-use Rattle.std.proofs.Common.{◌+◌, Some, inl, inr, refl, sym, ap, subst, ◌∙◌, arith}
+use Rattle.std.proofs.Common.{◌≡◌, ◌+◌, [], ◌∷◌, Some, inl, inr, refl, sym, ap, subst, ◌∙◌, arith}
 use Rattle.std.proofs.lemmas.Result.{on_ok_weaker}
 use Rattle.den_model.specs.MapState.{part_of}
 use Rattle.den_journal.proofs.Moving.{old_or_new}
 use Rattle.den_core.specs.Joined.{durable_is}
 use Rattle.den_core.proofs.Spared.{gives_now, spared, apart_own, meta_moves, log_meta, state_meta, snapshot_meta, spares_by}
-use Rattle.den_core.proofs.Weighing.{one_size, full_by, hard_state_length, heavier}
-use Rattle.den_core.specs.Parts.{durable_of, kv_of}
+use Rattle.den_core.proofs.Steps.{raised_same}
+use Rattle.den_core.proofs.Weighing.{one_size, full_by, hard_state_length, heavier, same_short}
+use Rattle.den_core.specs.PayloadSizes.{hard_state_sizes}
+use Rattle.den_journal.specs.Drafts.{IsSizeOf}
+use Rattle.den_model.specs.declared.log_id.HardState.{HardState}
+use Rattle.den_model.specs.Spelling.{hard_state_word}
+use Rattle.den_core.specs.Parts.{durable_of, kv_of, raised_of}
 use Rattle.den_core.proofs.Refusing.{fails_or_stays, if_err_weaker, untouched_only}
 use Rattle.den_core.proofs.engine.raise.Goals as goal
 use Rattle.den_state.specs.Machine.{AtRest, rest_hold, rest_own}
@@ -49,7 +54,14 @@ returns-clause-makes g c =
       }) writes.done;
       refused = if_err_weaker c.save_hard_state.result _ _ (λ e refused. record {
         cause = refused.cause;
-        full = heavier _ _ _ _ _ _ _ e (λ t. (t.0, t.1.1)) refl (omega (arith, hard_state_length (record { current_term = c.current_term-term.result + 1; voted_for = c.vote.result }))) (full_by _ _ _ _ _ _ _ e (λ is. snapshot_meta (sym is)) (λ n never. absurd never) (λ n size. let small = one_size _ n size in omega (arith, small)) refused.full refused.heavy);
+        full =
+            let h = (g.T.MetaStore.shown engine.meta).value in
+            let saved : HardState = record { current_term = c.current_term-term.result + 1; voted_for = c.vote.result } in
+            let is : saved ≡ raised_of engine.running h = raised_same engine.running h c.current_term-term.result c.vote.result c.current_term-term.ensures c.vote.ensures in
+            heavier _ _ _ _ _ _ _ _ e (λ t. (t.0, t.1.1)) (λ needed t short. same_short (hard_state_sizes (raised_of engine.running h)) _ _ needed _ (omega (arith, hard_state_length saved)) short) refl (omega (arith, hard_state_length saved))
+            (full_by _ _ _ _ _ _ _ (hard_state_sizes (raised_of engine.running h)) e (λ t n never. absurd never)
+            (λ t n size. let small = one_size _ n size in (subst (λ x. IsSizeOf (hard_state_word x ∷ []) n) is size, omega (arith, small)))
+            refused.full refused.heavy);
         left = fails_or_stays _ _ e _ _ _ refused.cause
             (λ memory.
             let same = untouched_only (λ lost. lost.may_be) (refused.untouched memory) in

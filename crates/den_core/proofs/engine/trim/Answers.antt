@@ -1,4 +1,4 @@
-use Rattle.std.proofs.Common.{◌≡◌, ◌<◌, inl, inr, refl, sym, ap, ◌∙◌, arith}
+use Rattle.std.proofs.Common.{◌≡◌, ◌<◌, inl, inr, refl, sym, ap, subst, ◌∙◌, arith}
 use Rattle.den_journal.proofs.Moving.{old_or_new}
 use Rattle.den_model.specs.declared.log_id.LogId.{LogId}
 use Rattle.den_model.specs.declared.region.LogRegion.TheVariants.{Purge}
@@ -11,7 +11,10 @@ use Rattle.den_core.proofs.Quiet.{stays}
 use Rattle.den_core.proofs.Refusing.{at_exit, fails_or_stays, not_done, untouched_only}
 use Rattle.den_core.proofs.Spared.{all_at_rest, apart_own, gives_now, log_moves, meta_log, same_gives, snapshot_log, spared, spares_by, spares_still, state_log}
 use Rattle.den_core.proofs.Trimming.{few_entries, mark_above, purged_long, stays_whole, trimmed_caught_up, trimmed_is, trimmed_short, trimmed_words}
-use Rattle.den_core.proofs.Weighing.{full_by, heavier}
+use Rattle.den_core.specs.PayloadSizes.{trim_sizes}
+use Rattle.den_core.proofs.Weighing.{full_by, heavier, same_short}
+use Rattle.den_journal.specs.Drafts.{IsSizeOf}
+use Rattle.den_store.specs.Changes.{purge_words}
 use Rattle.den_core.proofs.engine.trim.Goals as goal
 
 -- the log is short
@@ -72,8 +75,12 @@ returns-in_err-purge-clause-makes g c =
       done = not_done c.from_residual.result c.in_err-purge.field-0.0 _ c.from_residual.ensures.1;
       refused = at_exit c.from_residual.result c.in_err-purge.field-0.0 _ c.from_residual.ensures.1 (record {
         cause = writes.refused.cause;
-        full = heavier _ _ _ _ _ _ _ c.in_err-purge.field-0.0 (λ t. (t.0, t.1.0)) refl (omega arith)
-            (full_by _ _ _ _ _ _ _ c.in_err-purge.field-0.0 (λ is. snapshot_log (sym is)) (λ n never. absurd never) (λ n size. let small = trimmed_words l s ready.caught_up _ c.last_applied-applied.ensures n size in omega (arith, small)) writes.refused.full writes.refused.heavy);
+        full = heavier _ _ _ _ _ _ _ _ c.in_err-purge.field-0.0 (λ t. (t.0, t.1.0)) (λ needed t short. same_short (trim_sizes engine.most l s.mark) _ _ needed _ (omega arith) short) refl (omega arith)
+            (full_by _ _ _ _ _ _ _ (trim_sizes engine.most l s.mark) c.in_err-purge.field-0.0 (λ t n never. absurd never)
+            (λ t n size.
+            let small = trimmed_words l s ready.caught_up _ c.last_applied-applied.ensures n size in
+            ((sym c.is_long.ensures ∙ c.if-not-is_long.false, subst (λ (i : LogId). IsSizeOf (purge_words l i) n) c.last_applied-applied.ensures size), omega (arith, small)))
+            writes.refused.full writes.refused.heavy);
         left = fails_or_stays _ _ c.in_err-purge.field-0.0 _ _ _ writes.refused.cause
             (λ memory. inr (inl refl, (untouched_only (λ lost. lost.may_be) (writes.refused.untouched memory)).same_value)) (λ disk. inl refl);
       });

@@ -1,11 +1,12 @@
-use Rattle.std.proofs.Common.{IsTrue, IfErr, rules, arith, ap, sym, ◌∙◌, subst}
+use Rattle.std.proofs.Common.{IsTrue, IfErr, rules, arith, ap, refl, sym, ◌∙◌, subst}
 use Rattle.std.proofs.lemmas.Result.{on_ok_weaker}
 use Rattle.den_disk.specs.Files.{Kind}
 use Rattle.den_model.specs.Crash.{Stands, Tells}
 use Rattle.den_model.specs.Frames.{frames}
 use Rattle.den_core.proofs.GoesOn.{disk_twice, on_ok_three}
-use Rattle.den_core.proofs.Beginning.{opens_only, runs, runs_answered, runs_whole}
-use Rattle.den_core.proofs.Weighing.{heavier_all}
+use Rattle.den_core.proofs.Beginning.{frames_reached, opening_reached, opens_only, runs, runs_answered, runs_whole}
+use Rattle.den_core.proofs.Refusing.{not_done}
+use Rattle.den_core.proofs.Weighing.{heavier_all, heavier_out, short_step}
 use Rattle.den_core.specs.Refusals.{IsServeRefusal}
 use Rattle.den_disk.specs.Goes.{Rose}
 use Rattle.den_core.proofs.Spared.{spares_twice}
@@ -81,6 +82,37 @@ returns-clause-serves g c =
       ready = serves.ready;
       rests = on_ok_weaker c.serve.result (λ rests told. rests (subst (λ (k : Kind). IsTrue k.tells) (sym c.open_at.ensures.makes.goes_on.same) told)) serves.rests;
       refused = refused;
-      full = heavier_all c.serve.result _ _ _ _ _ _ _ (λ t. (subst (λ (k : Kind). IsTrue k.tells) (sym c.open_at.ensures.makes.goes_on.same) t.0, t.1)) (ap (λ (k : Kind). k.limit) c.open_at.ensures.makes.goes_on.same)
+      full = heavier_all c.serve.result _ _ _ _ _ _ _ _ (λ t. (subst (λ (k : Kind). IsTrue k.tells) (sym c.open_at.ensures.makes.goes_on.same) t.0, t.1))
+          (λ needed t short. short_step _ _ _ _ _ _ needed _
+          (λ kv log next reached told.
+          let opening = c.in_ok-open_at.ensures in
+          let here : Tells (g.D.Disk.kind c.open_at.new.disk).tells (g.L.Link.tells c.args.link.now) (g.C.Clock.tells c.serve.new.clock) =
+          record { disk_tells = subst (λ (k : Kind). IsTrue k.tells) (sym opening.makes.goes_on.same) told.disk_tells; link_tells = told.link_tells; clock_tells = told.clock_tells } in
+          frames_reached _ _ _ _ (frames c.args.limit (g.L.Link.left c.args.link.now)) _ _ _ _ _ _ kv log next (c.now.ensures.told (c.serve.ensures.clock.told told.clock_tells)) (c.serve.ensures.clock.grows told.clock_tells)
+          c.max-time.ensures opening.makes.done.state opening.makes.done.logged (reached here))
+          c.open_at.ensures.makes.same_most (omega (arith, c.in_ok-open_at.ensures.makes.done.weight)) short)
+          (ap (λ (k : Kind). k.limit) c.open_at.ensures.makes.goes_on.same)
           (omega (arith, c.in_ok-open_at.ensures.makes.done.weight)) serves.full;
     }
+
+pub returns-in_err-open_at-clause-serves : goal.returns-in_err-open_at-clause-serves
+returns-in_err-open_at-clause-serves g c =
+    let makes = c.in_err-open_at.ensures.makes in
+    let refused : IfErr c.from_residual.result (λ e. IsServeRefusal (Rose (g.D.Disk.faults c.args.disk.now) (g.D.Disk.faults c.open_at.new.disk)) (Rose (g.L.Link.faults c.args.link.now) (g.L.Link.faults c.args.link.now)) (g.D.Disk.kind c.args.disk.now).limit e) = search rules in
+    record {
+      goes_on = makes.goes_on;
+      snapshot = makes.snapshot;
+      same_most = makes.same_most;
+      short = not_done c.from_residual.result c.in_err-open_at.field-0.0 _ c.from_residual.ensures.1;
+      state_short = not_done c.from_residual.result c.in_err-open_at.field-0.0 _ c.from_residual.ensures.1;
+      ready = not_done c.from_residual.result c.in_err-open_at.field-0.0 _ c.from_residual.ensures.1;
+      rests = not_done c.from_residual.result c.in_err-open_at.field-0.0 _ c.from_residual.ensures.1;
+      refused = refused;
+      full = heavier_out c.from_residual.result c.in_err-open_at.field-0.0 _ _ _ _ _ _ _ _ c.from_residual.ensures.1 (λ t. t)
+          (λ needed t short. short_step _ _ _ _ _ _ needed _
+          (λ kv log next begun told. opening_reached _ _ (frames c.args.limit (g.L.Link.left c.args.link.now)) _ _ _ _ (g.L.Link.sent c.args.link.now) kv log next (c.now.ensures.told told.clock_tells) c.max-time.ensures begun)
+          refl (omega arith) short) refl (omega arith) makes.refused.full;
+    }
+
+pub returns-clause-state_short : goal.returns-clause-state_short
+returns-clause-state_short g c = on_ok_weaker c.serve.result (λ short. short c.in_ok-open_at.ensures.state_short) c.serve.ensures.serves.state_short

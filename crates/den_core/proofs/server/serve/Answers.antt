@@ -2,14 +2,14 @@ use Rattle.std.proofs.Common.{◌∷◌, IsTrue, IfErr, rules, refl, sym, ◌∙
 use Rattle.den_disk.specs.Files.{Kind}
 use Rattle.den_model.specs.Crash.{Tells}
 use Rattle.den_model.specs.Frames.{frames}
-use Rattle.den_core.proofs.FramesSoFar.{begins, begun_over, served_over, done_over}
+use Rattle.den_core.proofs.FramesSoFar.{begins, begun_over, served_over, done_over, turn_reached}
 use Rattle.den_core.proofs.GoesOn.{disk_same, disk_twice, link_same, link_twice, clock_same, clock_twice, clock_read, found_some, found_none}
 use Rattle.den_core.proofs.Refusing.{not_done}
 use Rattle.den_core.specs.Refusals.{IsServeRefusal}
 use Rattle.den_disk.specs.Goes.{Rose}
 use Rattle.den_core.proofs.Spared.{spares_still, spares_twice}
 use Rattle.den_core.proofs.Stretch.{stands_now}
-use Rattle.den_core.proofs.Weighing.{counted_on, served_on, heavier_out}
+use Rattle.den_core.proofs.Weighing.{counted_on, served_on, heavier_out, short_step}
 use Rattle.den_core.proofs.server.serve.Goals as goal
 
 pub frames-init : goal.frames-init
@@ -70,8 +70,20 @@ returns-in_err-serve_frame-clause-serves g c =
       ready = not_done c.from_residual-in_err-serve_frame.result c.in_err-serve_frame.field-0.0 _ c.from_residual-in_err-serve_frame.ensures.1;
       rests = not_done c.from_residual-in_err-serve_frame.result c.in_err-serve_frame.field-0.0 _ c.from_residual-in_err-serve_frame.ensures.1;
       refused = refused;
-      full = heavier_out c.from_residual-in_err-serve_frame.result c.in_err-serve_frame.field-0.0 _ _ _ _ _ _ _ c.from_residual-in_err-serve_frame.ensures.1
-          (λ t. (subst (λ (k : Kind). IsTrue k.tells) (sym inv.disk.same) t.0, t.1)) (ap (λ (k : Kind). k.limit) inv.disk.same)
+      full = heavier_out c.from_residual-in_err-serve_frame.result c.in_err-serve_frame.field-0.0 _ _ _ _ _ _ _ _ c.from_residual-in_err-serve_frame.ensures.1
+          (λ t. (subst (λ (k : Kind). IsTrue k.tells) (sym inv.disk.same) t.0, t.1))
+          (λ needed t short. short_step _ _ _ _ _ _ needed _
+          (λ kv log next begun told.
+          let before : Tells (g.D.Disk.kind c.args.disk.now).tells (g.L.Link.tells c.args.link.now) (g.C.Clock.tells c.frames.clock) =
+          record { disk_tells = told.disk_tells; link_tells = told.link_tells; clock_tells = c.now.ensures.tells told.clock_tells } in
+          let link_tells : IsTrue (g.L.Link.tells c.frames.link) = subst (λ b. IsTrue b) (sym inv.link.same) told.link_tells in
+          let then_tells : IsTrue (g.L.Link.tells c.next.new.link) = subst (λ b. IsTrue b) (sym c.next.ensures.on.same) link_tells in
+          turn_reached _ _ _ _ _ _ _ _ _ _ _ _ _ _ _ _ _ _ _ _ _ kv log next (inv.clock.grows before.clock_tells) (c.now.ensures.told told.clock_tells) c.max-time.ensures
+          (begun.1 then_tells ∙ c.next.ensures.sent link_tells) (inv.so_far before) (found_some _ _ _ _ _ _ inv.limit c.in-Some.is (c.in_ok-found.ensures.found link_tells)) begun.0)
+          inv.most
+          (served_on (g.S.Stepper.seen c.args.stepper.now).weight (g.S.Stepper.seen c.frames.stepper).weight (g.L.Link.taken c.args.link.now) (g.L.Link.taken c.frames.link) (g.L.Link.taken c.next.new.link) (g.L.Link.taken c.serve_frame.new.link) _ c.in-Some.frame c.in-Some.is inv.weight inv.link.more c.in_ok-found.ensures.size c.serve_frame.ensures.taken c.next.ensures.on.more)
+          short)
+          (ap (λ (k : Kind). k.limit) inv.disk.same)
           (served_on (g.S.Stepper.seen c.args.stepper.now).weight (g.S.Stepper.seen c.frames.stepper).weight (g.L.Link.taken c.args.link.now) (g.L.Link.taken c.frames.link) (g.L.Link.taken c.next.new.link) (g.L.Link.taken c.serve_frame.new.link) _ c.in-Some.frame c.in-Some.is inv.weight inv.link.more c.in_ok-found.ensures.size c.serve_frame.ensures.taken c.next.ensures.on.more) c.in_err-serve_frame.ensures.serves.full;
     }
 

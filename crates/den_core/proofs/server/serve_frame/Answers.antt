@@ -1,8 +1,12 @@
-use Rattle.std.proofs.Common.{IsTrue, ◌∙◌, ap, sym, subst}
+use Rattle.std.proofs.Common.{IsTrue, IfErr, rules, arith, refl, ◌∙◌, ap, sym, subst}
 use Rattle.den_disk.specs.Files.{Kind}
 use Rattle.den_model.specs.Crash.{Stands, bytes_of}
+use Rattle.den_disk.specs.Goes.{Rose}
+use Rattle.den_core.specs.Refusals.{IsServeRefusal}
 use Rattle.den_core.proofs.Lists.{added_is, bytes_of-stamped}
+use Rattle.den_core.proofs.Refusing.{not_done}
 use Rattle.den_core.proofs.Stretch.{then_sent_over, stands_now}
+use Rattle.den_core.proofs.Weighing.{heavier_out, short_step}
 use Rattle.den_core.proofs.server.serve_frame.Goals as goal
 
 -- the step is made, and a front of what it answers is sent
@@ -33,3 +37,21 @@ returns-clause-whole g c = λ link_tells. record {
   logged = c.in_ok-out.ensures.makes.done.logged;
   bytes = ap bytes_of (added_is _ _ _ (c.in_ok-send_all.ensures.all link_tells)) ∙ bytes_of-stamped _ _ ∙ c.in_ok-out.ensures.answer;
 }
+
+-- the step was refused
+pub returns-in_err-out-clause-serves : goal.returns-in_err-out-clause-serves
+returns-in_err-out-clause-serves g c =
+    let makes = c.in_err-out.ensures.makes in
+    let refused : IfErr c.from_residual.result (λ e. IsServeRefusal (Rose (g.D.Disk.faults c.args.disk.now) (g.D.Disk.faults c.step.new.disk)) (Rose (g.L.Link.faults c.args.link.now) (g.L.Link.faults c.args.link.now)) (g.D.Disk.kind c.args.disk.now).limit e) = search rules in
+    record {
+      goes_on = makes.goes_on;
+      snapshot = makes.snapshot;
+      same_most = makes.same_most;
+      short = not_done c.from_residual.result c.in_err-out.field-0.0 _ c.from_residual.ensures.1;
+      state_short = not_done c.from_residual.result c.in_err-out.field-0.0 _ c.from_residual.ensures.1;
+      ready = not_done c.from_residual.result c.in_err-out.field-0.0 _ c.from_residual.ensures.1;
+      rests = not_done c.from_residual.result c.in_err-out.field-0.0 _ c.from_residual.ensures.1;
+      refused = refused;
+      full = heavier_out c.from_residual.result c.in_err-out.field-0.0 _ _ _ _ _ _ _ _ c.from_residual.ensures.1 (λ t. t)
+          (λ needed t short. short_step _ _ _ _ _ _ needed _ (λ kv log next begun. (begun, λ told. refl)) refl (omega arith) short) refl (omega arith) makes.refused.full;
+    }

@@ -1,11 +1,15 @@
-use Rattle.std.proofs.Common.{IsTrue, inl, refl, ap, sym, subst, ◌∙◌, arith}
+use Rattle.std.proofs.Common.{◌+◌, IsTrue, inl, refl, ap, sym, subst, ◌∙◌, arith}
 use Rattle.den_model.specs.Image.{term_of}
 use Rattle.den_core.specs.Parts.{kv_of}
 use Rattle.den_core.proofs.GoesOn.{disk_twice}
 use Rattle.den_core.proofs.Spared.{spares_twice}
-use Rattle.den_core.proofs.Weighing.{heavier}
+use Rattle.den_core.specs.Full.{IsSlotTooShort}
+use Rattle.den_core.specs.PayloadSizes.{step_sizes}
+use Rattle.den_core.specs.Weights.{opening_rise}
+use Rattle.den_core.proofs.Weighing.{heavier, same_short}
+use Rattle.den_model.specs.Step.{Noop, Raise}
 use Rattle.den_disk.specs.Files.{Kind}
-use Rattle.den_core.proofs.Steps.{opening_begun, opening_log, opening_made, opening_state, opening_trimmed, raised_is}
+use Rattle.den_core.proofs.Steps.{noop_begun, opening_begun, opening_log, opening_made, opening_state, opening_trimmed, raise_begun, raised_is}
 use Rattle.den_core.proofs.Refusing.{at_exit, fails_behind, left_weaker, not_done, refusal_behind}
 use Rattle.den_core.proofs.engine.EngineStepper.open_at.Goals as goal
 
@@ -22,7 +26,17 @@ returns-in_err-raise-clause-makes g c =
       done = not_done c.from_residual.result c.in_err-raise.field-0.0 _ c.from_residual.ensures.1;
       refused = at_exit c.from_residual.result c.in_err-raise.field-0.0 _ c.from_residual.ensures.1 (record {
         cause = makes.refused.cause;
-        full = heavier _ _ _ _ _ _ _ c.in_err-raise.field-0.0 (λ t. t) refl (omega arith) makes.refused.full;
+        full = heavier _ _ _ _ _ _ _ _ c.in_err-raise.field-0.0 (λ t. t)
+            (λ needed t short.
+            let self = c.args.self.now in
+            record {
+              kv = kv_of (g.T.MetaStore.shown self.meta).value (g.M.StateMachine.map self.state) self.running;
+              log = (g.G.LogStore.shown self.log).value;
+              next = Raise;
+              is_begun = raise_begun _ _ c.args.time c.requires.stands.ready.1.plain.no_lease;
+              short = same_short _ _ _ needed _ (omega arith) short;
+            })
+            refl (omega arith) makes.refused.full;
         left = left_weaker c.in_err-raise.field-0.0 _ _ _ _ (λ joined. absurd (omega (arith, joined.some))) makes.refused.left;
       });
     }
@@ -46,7 +60,23 @@ returns-in_err-commit_and_trim-clause-makes g c =
       done = not_done c.from_residual-in_err-commit_and_trim.result c.in_err-commit_and_trim.field-0.0 _ c.from_residual-in_err-commit_and_trim.ensures.1;
       refused = at_exit c.from_residual-in_err-commit_and_trim.result c.in_err-commit_and_trim.field-0.0 _ c.from_residual-in_err-commit_and_trim.ensures.1 (record {
         cause = refusal_behind _ _ _ _ c.in_err-commit_and_trim.field-0.0 (λ rose. omega (arith, rose, raised.makes.goes_on.counts)) (ap (λ (k : Kind). k.limit) raised.makes.goes_on.same) makes.refused.cause;
-        full = heavier _ _ _ _ _ _ _ c.in_err-commit_and_trim.field-0.0 (λ t. (subst (λ k. IsTrue k.tells) (sym c.raise.ensures.makes.goes_on.same) t.0, t.1)) (ap (λ (k : Kind). k.limit) raised.makes.goes_on.same) (omega (arith, raised.makes.done.weight)) makes.refused.full;
+        full = heavier _ _ _ _ _ _ _ _ c.in_err-commit_and_trim.field-0.0 (λ t. (subst (λ k. IsTrue k.tells) (sym c.raise.ensures.makes.goes_on.same) t.0, t.1))
+            (λ needed t short.
+            let self = c.args.self.now in
+            let then = c.raise.new.engine in
+            let kv = kv_of (g.T.MetaStore.shown then.meta).value (g.M.StateMachine.map then.state) then.running in
+            let log = (g.G.LogStore.shown then.log).value in
+            let most = (g.G.LogStore.shown self.log).weight + (g.T.MetaStore.shown self.meta).weight + (g.M.StateMachine.shown self.state).weight + opening_rise in
+            let files = (g.D.Disk.content c.commit_and_trim.new.disk).reading in
+            record {
+              kv = kv;
+              log = log;
+              next = Noop c.args.time;
+              is_begun = noop_begun _ _ _ _ c.args.time c.requires.stands.ready.1.plain.no_lease
+                  (raised_is (g.T.MetaStore.shown self.meta).value _ _ _ _ _ raised.raised c.raise.ensures.map c.raise.ensures.running) c.raise.ensures.log;
+              short = subst (λ n. IsSlotTooShort (step_sizes n log kv (Noop c.args.time)) most needed files) raised.makes.same_most (same_short _ _ most needed files (omega (arith, raised.makes.done.weight)) short);
+            })
+            (ap (λ (k : Kind). k.limit) raised.makes.goes_on.same) (omega (arith, raised.makes.done.weight)) makes.refused.full;
         left = fails_behind c.in_err-commit_and_trim.field-0.0 _ _ _ (inl (c.in_err-commit_and_trim.ensures.still refl))
             (ap (λ m. term_of (g.T.MetaStore.shown m).value) c.commit_and_trim.ensures.meta ∙ ap term_of raised.raised);
       });

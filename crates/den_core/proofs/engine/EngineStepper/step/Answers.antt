@@ -1,6 +1,8 @@
-use Rattle.std.proofs.Common.{ap}
-use Rattle.den_core.proofs.Steps.{turn_joined, turn_log, turn_made, turn_state, turn_trimmed}
+use Rattle.std.proofs.Common.{ap, arith, refl}
+use Rattle.den_core.proofs.Steps.{turn_begun, turn_joined, turn_log, turn_made, turn_state, turn_trimmed}
 use Rattle.den_core.proofs.Refusing.{at_exit, left_weaker, not_done}
+use Rattle.den_core.proofs.Weighing.{heavier}
+use Rattle.den_model.specs.Step.{Ask}
 use Rattle.den_core.proofs.engine.EngineStepper.step.Goals as goal
 
 pub returns-in_err-reply-clause-makes : goal.returns-in_err-reply-clause-makes
@@ -14,7 +16,8 @@ returns-in_err-reply-clause-makes g c =
       done = not_done c.from_residual.result c.in_err-reply.field-0.0 _ c.from_residual.ensures.1;
       refused = at_exit c.from_residual.result c.in_err-reply.field-0.0 _ c.from_residual.ensures.1 (record {
         cause = makes.refused.cause;
-        full = makes.refused.full;
+        full = heavier _ _ _ _ _ _ _ _ c.in_err-reply.field-0.0 (λ t. t)
+            (λ needed t short. record { kv = _; log = _; next = Ask c.args.frame c.args.time; is_begun = turn_begun _ _ c.args.frame c.args.time c.requires.stands.ready.1.plain.no_lease; short = short }) refl (omega arith) makes.refused.full;
         left = left_weaker c.in_err-reply.field-0.0 _ _ _ _ (turn_joined _ _ _ c.args.frame c.args.time c.requires.stands.ready.1.plain.no_lease) makes.refused.left;
       });
     }
