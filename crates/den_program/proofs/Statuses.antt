@@ -1,6 +1,5 @@
 -- The statuses of a run's answers, and their causes.
 use Rattle.std.proofs.Common.{◌≡◌, ◌⊎◌, inl, inr, ⊎_elim, ◌++◌, ℕ, List, Option, Some, None, Result, Ok, Err, IfErr, IfSome, IsOk, OnOk, refl, ◌∙◌, ap, subst}
-use Rattle.den_disk.specs.Files.{Files}
 use Rattle.den_disk.specs.Goes.{IsPrefix}
 use Rattle.den_codec.specs.declared.error.Error.{Error}
 use Rattle.den_codec.specs.declared.error.Error.TheVariants as error
@@ -8,11 +7,11 @@ use Rattle.den_server.specs.Causes.{IsRunRefusal, IsTurnedAway}
 use Rattle.den_program.specs.Serving.{HasStatus, IsRefusedStatus, IsLine, IsLineFront}
 use Rattle.den_program.specs.Status.{status_of, status_of_error, line_of, line_of_error, status_line, IsWrittenFront}
 
-module _ (disk_rose link_rose told : Type 0) (refusal : Option Error) (files : Files) (most held taken : ℕ) where
+module _ (disk_rose link_rose told : Type 0) (refusal : Option Error) (short : (most needed : ℕ) → Type 0) (most held taken : ℕ) where
   abbrev H : ℕ → Type 0
-  H status = HasStatus disk_rose link_rose told refusal files most held taken status
+  H status = HasStatus disk_rose link_rose told refusal short most held taken status
 
-  error_status : (e : Error) → IsRunRefusal disk_rose link_rose told refusal files most held taken e → H (status_of_error e)
+  error_status : (e : Error) → IsRunRefusal disk_rose link_rose told refusal short most held taken e → H (status_of_error e)
   error_status error.OutOfMemory h = record { known = refl; storage = λ e. absurd (cc e); link = λ e. absurd (cc e); disk = λ e. absurd (cc e); corrupt = λ e. absurd (cc e); lease = λ e. absurd (cc e); exhausted = λ e. absurd (cc e) }
   error_status error.StorageIoError h = record { known = refl; storage = λ e. h; link = λ e. absurd (cc e); disk = λ e. absurd (cc e); corrupt = λ e. absurd (cc e); lease = λ e. absurd (cc e); exhausted = λ e. absurd (cc e) }
   error_status error.LinkFault h = record { known = refl; storage = λ e. absurd (cc e); link = λ e. h; disk = λ e. absurd (cc e); corrupt = λ e. absurd (cc e); lease = λ e. absurd (cc e); exhausted = λ e. absurd (cc e) }
@@ -24,14 +23,14 @@ module _ (disk_rose link_rose told : Type 0) (refusal : Option Error) (files : F
   error_status (error.Config place) h = absurd h
   error_status error.StateMachineError h = absurd h
 
-  pub has_status : (r : Option (Result (Unit {0}) Error)) → (r ≡ None → ⊥) → IfSome r (λ a. IfErr a (IsRunRefusal disk_rose link_rose told refusal files most held taken))
+  pub has_status : (r : Option (Result (Unit {0}) Error)) → (r ≡ None → ⊥) → IfSome r (λ a. IfErr a (IsRunRefusal disk_rose link_rose told refusal short most held taken))
       → H (status_of r)
   has_status None some h = absurd (some refl)
   has_status (Some (Ok done)) some h = record { known = refl; storage = λ e. absurd (cc e); link = λ e. absurd (cc e); disk = λ e. absurd (cc e); corrupt = λ e. absurd (cc e); lease = λ e. absurd (cc e); exhausted = λ e. absurd (cc e) }
   has_status (Some (Err e)) some h = error_status e h
 
   -- the error of status 8 is that of the refusal
-  names_error : (e : Error) → IsRunRefusal disk_rose link_rose told refusal files most held taken e → (place : ℕ) × (offset : ℕ)
+  names_error : (e : Error) → IsRunRefusal disk_rose link_rose told refusal short most held taken e → (place : ℕ) × (offset : ℕ)
       × (told → status_of_error e ≡ 8 → refusal ≡ Some (error.DataCorruption place offset)) × (line_of_error e ≡ status_line (status_of_error e) place offset)
   names_error (error.DataCorruption place offset) h = (place, offset, (λ t is. h t), refl)
   names_error error.OutOfMemory h = (0, 0, (λ t is. absurd (cc is)), refl)
@@ -44,17 +43,17 @@ module _ (disk_rose link_rose told : Type 0) (refusal : Option Error) (files : F
   names_error (error.Config place) h = absurd h
   names_error error.StateMachineError h = absurd h
 
-  names : (r : Option (Result (Unit {0}) Error)) → IfSome r (λ a. IfErr a (IsRunRefusal disk_rose link_rose told refusal files most held taken)) → (place : ℕ) × (offset : ℕ)
+  names : (r : Option (Result (Unit {0}) Error)) → IfSome r (λ a. IfErr a (IsRunRefusal disk_rose link_rose told refusal short most held taken)) → (place : ℕ) × (offset : ℕ)
       × (told → status_of r ≡ 8 → refusal ≡ Some (error.DataCorruption place offset)) × (line_of r ≡ status_line (status_of r) place offset)
   names None h = (0, 0, (λ t is. absurd (cc is)), refl)
   names (Some (Ok done)) h = (0, 0, (λ t is. absurd (cc is)), refl)
   names (Some (Err e)) h = names_error e h
 
-  pub line_is : (r : Option (Result (Unit {0}) Error)) (old new : List ℕ) → IfSome r (λ a. IfErr a (IsRunRefusal disk_rose link_rose told refusal files most held taken)) → new ≡ old ++ line_of r
+  pub line_is : (r : Option (Result (Unit {0}) Error)) (old new : List ℕ) → IfSome r (λ a. IfErr a (IsRunRefusal disk_rose link_rose told refusal short most held taken)) → new ≡ old ++ line_of r
       → IsLine told refusal (status_of r) old new
   line_is r old new h written = let n = names r h in record { place = n.0; offset = n.1; names = n.2; written = written ∙ ap (λ l. old ++ l) n.3 }
 
-  pub front_is : (r : Option (Result (Unit {0}) Error)) (old new : List ℕ) → IfSome r (λ a. IfErr a (IsRunRefusal disk_rose link_rose told refusal files most held taken)) → IsWrittenFront (line_of r) old new
+  pub front_is : (r : Option (Result (Unit {0}) Error)) (old new : List ℕ) → IfSome r (λ a. IfErr a (IsRunRefusal disk_rose link_rose told refusal short most held taken)) → IsWrittenFront (line_of r) old new
       → IsLineFront told refusal (status_of r) old new
   front_is r old new h w = let n = names r h in record { place = n.0; offset = n.1; names = n.2; front = w.0; is_front = subst (λ (l : List ℕ). IsPrefix w.0 l) n.3 w.1; written = w.2 }
 

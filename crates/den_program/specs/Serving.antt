@@ -1,8 +1,8 @@
 -- What the program serves with: the default configuration.
 use Rattle.std.specs.Prelude.{◌≡◌, ◌⊎◌, ◌==◌, ◌||◌, ◌++◌, ◌-◌, ℕ, pos, Bool, true, false, List, Option, Some, None, IsTrue}
+use Rattle.den_disk.specs.declared.clock.Clock.{Ghosts as Clocks}
 use Rattle.den_disk.specs.declared.disk.Disk.{Ghosts as Disks}
 use Rattle.den_disk.specs.declared.link.Link.{Ghosts as Links}
-use Rattle.den_disk.specs.Files.{Files}
 use Rattle.den_disk.specs.Goes.{IsPrefix, Rose}
 use Rattle.den_codec.specs.declared.error.Error.{Error}
 use Rattle.den_codec.specs.declared.error.Error.TheVariants.{DataCorruption, FeatureNotEnabled, ProposeFailed}
@@ -12,7 +12,7 @@ use Rattle.den_model.specs.Sizes.{files_size}
 use Rattle.den_codec.specs.Standard.{standard_nodes}
 use Rattle.den_server.specs.Causes.{IsFull}
 use Rattle.den_server.specs.Opening.{refusal_in}
-use Rattle.den_server.specs.Promises.{RunConfig}
+use Rattle.den_server.specs.Promises.{IsRunTooShort, RunConfig}
 use Rattle.den_program.specs.Status.{status_line}
 
 abbrev pub standard_setting : Setting
@@ -29,21 +29,21 @@ abbrev pub IsCorrupt : Option Error → Type 0
 IsCorrupt refusal = (place : ℕ) × (offset : ℕ) × (refusal ≡ Some (DataCorruption place offset))
 
 -- The statuses of serving and their causes: 5 and 6 only where the count of faults of the disk or the link rose; 7 only
--- where much was held and taken, and the room that a slot would need of files as they read at the end is above the disk's
--- limit, and 8 to 10 only for what files are refused, where the disk tells its bytes. Of a disk that does not tell, nothing bounds what its files may need.
-pub record HasStatus (disk_rose link_rose told : Type 0) (refusal : Option Error) (files : Files) (most held taken status : ℕ) : Type 0 where
+-- where much was held and taken, and a room of which this is said is above the disk's limit, and 8 to 10 only for what files
+-- are refused, where the disk tells its bytes. Of a disk that does not tell, nothing bounds what its files may need.
+pub record HasStatus (disk_rose link_rose told : Type 0) (refusal : Option Error) (short : (most needed : ℕ) → Type 0) (most held taken status : ℕ) : Type 0 where
   pub known : is_status status ≡ true
   pub storage : status ≡ 5 → disk_rose
   pub link : status ≡ 6 → link_rose
-  pub disk : status ≡ 7 → (needed : ℕ) × IsFull told refusal files most held taken needed
+  pub disk : status ≡ 7 → (needed : ℕ) × IsFull told refusal short most held taken needed
   pub corrupt : status ≡ 8 → told → IsCorrupt refusal
   pub lease : status ≡ 9 → told → refusal ≡ Some FeatureNotEnabled
   pub exhausted : status ≡ 10 → told → refusal ≡ Some ProposeFailed
 
 -- the same, of what serving is lent
-abbrev pub EndsWith : {D L : Type 0} (disk : Disks D) (link : Links L) (old new : D) (from to : L) (status : ℕ) → Type 0
-EndsWith disk link old new from to status = HasStatus (Rose (disk.faults old) (disk.faults new)) (Rose (link.faults from) (link.faults to)) (IsTrue (disk.kind old).tells) (refusal_in (disk.content old).reading)
-    (disk.content new).reading (disk.kind old).limit (files_size (disk.content old).reading) (link.taken to - link.taken from) status
+abbrev pub EndsWith : {D L C : Type 0} (disk : Disks D) (link : Links L) (clock : Clocks C) (config : RunConfig) (old new : D) (from to : L) (before after : C) (status : ℕ) → Type 0
+EndsWith disk link clock config old new from to before after status = HasStatus (Rose (disk.faults old) (disk.faults new)) (Rose (link.faults from) (link.faults to)) (IsTrue (disk.kind old).tells) (refusal_in (disk.content old).reading)
+    (IsRunTooShort disk link clock config old new from to before after) (disk.kind old).limit (files_size (disk.content old).reading) (link.taken to - link.taken from) status
 
 -- the statuses of serving files that are refused: that of the refusal, want of memory, or a fault of the disk
 abbrev pub IsRefusedStatus : ℕ → ℕ → Type 0

@@ -42,7 +42,7 @@ fn serve_words<D: Disk, L: Link, C: Clock>(
     ensures prefix { SendsPrefix D.Disk L.Link C.Clock standard_run disk.old disk.new link.old link.new clock.old clock.new }
     ensures any_moment { SurvivesCrash D.Disk L.Link C.Clock standard_run disk.old disk.new link.old link.new clock.old clock.new }
     ensures opening { SurvivesPending D.Disk L.Link C.Clock standard_run disk.old disk.new link.old link.new clock.old clock.new (result ≡ Some (Ok tt)) }
-    ensures refused { IfSome result (λ answer. IfErr answer (EndsEarly D.Disk L.Link disk.old disk.new link.old link.new)) }
+    ensures refused { IfSome result (λ answer. IfErr answer (EndsEarly D.Disk L.Link C.Clock standard_run disk.old disk.new link.old link.new clock.old clock.new)) }
     ensures turned_away { (result ≡ None → ⊥) → TurnsAway D.Disk (λ e. IfSome result (IsTurnedAway e)) disk.old disk.new link.old link.new clock.old clock.new }
     ensures complete { (result ≡ None → ⊥) → Completes D.Disk L.Link disk.old disk.new link.old link.new (result ≡ Some (Ok tt)) (result ≡ Some (Err OutOfMemory)) }
     ensures goes_on { AllGoOn D.Disk L.Link C.Clock disk.old disk.new link.old link.new clock.old clock.new }
@@ -94,8 +94,9 @@ pub fn serve_main<D: Disk, L: Link, C: Clock, S: Source, E: Sink>(
     ensures untouched { result ≡ 2 → (disk.new ≡ disk.old) × (link.new ≡ link.old) × (clock.new ≡ clock.old) }
     ensures conf { _conf.new ≡ _conf.old }
 
-    // Each other status has its cause, but for want of memory; that of 7 stands where the disk tells its bytes.
-    ensures status { (result ≡ 2 → ⊥) → EndsWith D.Disk L.Link disk.old disk.new link.old link.new result }
+    // Each other status has its cause, but for want of memory; that of 7 stands where the disk tells its bytes: the room that
+    // one slot would need for a payload of the plan's next step, or of the entries that the map lacked at opening.
+    ensures status { (result ≡ 2 → ⊥) → EndsWith D.Disk L.Link C.Clock standard_run disk.old disk.new link.old link.new clock.old clock.new result }
 
     // Files that are to be refused are: nothing is written, read, sent or timed.
     ensures turned_away { (result ≡ 2 → ⊥) → TurnsAway D.Disk (λ e. IsRefusedStatus (status_of_error e) result) disk.old disk.new link.old link.new clock.old clock.new }

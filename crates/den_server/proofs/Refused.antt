@@ -19,7 +19,6 @@ use Rattle.den_store.specs.Engine.{IsFirstCorrupt}
 use Rattle.den_journal.specs.Folding.{IsUnread}
 use Rattle.den_core.specs.Opening.{refusal_for, opening_refusal, is_exhausted, IsOpeningFailure}
 use Rattle.den_server.specs.Causes.{IsUnreadFolder, IsMuch, IsRunRefusal, most_run}
-use Rattle.den_core.proofs.Weighing.{short_slot}
 use Rattle.den_server.specs.Opening.{lease_asked, refusal_in, opened_weight, IsRead}
 
 -- ---- the definition, by what each family gives
@@ -86,28 +85,28 @@ unread_refused rose rose' told refusal corrupt (error.UnorderedChunk index) grow
 unread_refused rose rose' told refusal corrupt (error.Config place) grow sound h = absurd h
 unread_refused rose rose' told refusal corrupt error.StateMachineError grow sound h = absurd h
 
-pub folder_refused : (rose told : Type 0) (refusal : Option Error) (files : Files) (most held : ℕ) (e : Error) → IsUnreadFolder rose told refusal e → IsRunRefusal rose ⊥ told refusal files most held 0 e
-folder_refused rose told refusal files most held error.OutOfMemory h = h
-folder_refused rose told refusal files most held error.StorageIoError h = h
-folder_refused rose told refusal files most held (error.DataCorruption place offset) h = h
-folder_refused rose told refusal files most held (error.DiskFull needed limit) h = absurd h
-folder_refused rose told refusal files most held error.LinkFault h = absurd h
-folder_refused rose told refusal files most held error.FeatureNotEnabled h = absurd h
-folder_refused rose told refusal files most held error.ProposeFailed h = absurd h
-folder_refused rose told refusal files most held (error.UnorderedChunk index) h = absurd h
-folder_refused rose told refusal files most held (error.Config place) h = absurd h
-folder_refused rose told refusal files most held error.StateMachineError h = absurd h
+pub folder_refused : (rose told : Type 0) (refusal : Option Error) (short : (most needed : ℕ) → Type 0) (most held : ℕ) (e : Error) → IsUnreadFolder rose told refusal e → IsRunRefusal rose ⊥ told refusal short most held 0 e
+folder_refused rose told refusal short most held error.OutOfMemory h = h
+folder_refused rose told refusal short most held error.StorageIoError h = h
+folder_refused rose told refusal short most held (error.DataCorruption place offset) h = h
+folder_refused rose told refusal short most held (error.DiskFull needed limit) h = absurd h
+folder_refused rose told refusal short most held error.LinkFault h = absurd h
+folder_refused rose told refusal short most held error.FeatureNotEnabled h = absurd h
+folder_refused rose told refusal short most held error.ProposeFailed h = absurd h
+folder_refused rose told refusal short most held (error.UnorderedChunk index) h = absurd h
+folder_refused rose told refusal short most held (error.Config place) h = absurd h
+folder_refused rose told refusal short most held error.StateMachineError h = absurd h
 
 much_opened : (most weight held : ℕ) → weight ≤ opened_weight held → most < 4 * weight → IsMuch most (held + 0)
 much_opened most weight held le h = omega (arith, h, le)
 
 -- the disk refuses what opening writes
-disk_refused : (rose rose' told more : Type 0) (refusal : Option Error) (files : Files) (most weight held : ℕ) (e : Error) → (rose → rose') → (told → more) → (told → refusal ≡ None) → (told → weight ≤ opened_weight held)
-    → IsRefusal rose most e → IsFullBy more files most weight e → IsRunRefusal rose' ⊥ told refusal files most held 0 e
-disk_refused rose rose' told more refusal files most weight held error.OutOfMemory grow so none light h full = h
-disk_refused rose rose' told more refusal files most weight held error.StorageIoError grow so none light h full = grow h
-disk_refused rose rose' told more refusal files most weight held (error.DataCorruption place offset) grow so none light h full = absurd h
-disk_refused rose rose' told more refusal files most weight held (error.DiskFull needed limit) grow so none light h full = (
+disk_refused : (rose rose' told more : Type 0) (refusal : Option Error) (slot : ℕ → Type 0) (short : (most needed : ℕ) → Type 0) (most weight held : ℕ) (e : Error) → (rose → rose') → (told → more) → ((needed : ℕ) → told → weight ≤ most_run held 0 → slot needed → short (most_run held 0) needed) → (told → refusal ≡ None) → (told → weight ≤ opened_weight held)
+    → IsRefusal rose most e → IsFullBy more slot most weight e → IsRunRefusal rose' ⊥ told refusal short most held 0 e
+disk_refused rose rose' told more refusal slot short most weight held error.OutOfMemory grow so means none light h full = h
+disk_refused rose rose' told more refusal slot short most weight held error.StorageIoError grow so means none light h full = grow h
+disk_refused rose rose' told more refusal slot short most weight held (error.DataCorruption place offset) grow so means none light h full = absurd h
+disk_refused rose rose' told more refusal slot short most weight held (error.DiskFull needed limit) grow so means none light h full = (
   h.1,
   record {
     size = full.1.size;
@@ -115,16 +114,16 @@ disk_refused rose rose' told more refusal files most weight held (error.DiskFull
     above = subst (λ n. n < needed) h.1 h.0;
     accepted = none;
     bounded = λ t. omega (arith, full.1.within, light t);
-    slot = λ t. short_slot weight (most_run held 0) needed files (omega (arith, light t)) (full.2 (so t));
+    slot = λ t. means needed t (omega (arith, light t)) (full.2 (so t));
     much = λ t. much_opened most weight held (light t) full.0;
   },
 )
-disk_refused rose rose' told more refusal files most weight held error.LinkFault grow so none light h full = absurd h
-disk_refused rose rose' told more refusal files most weight held error.FeatureNotEnabled grow so none light h full = absurd h
-disk_refused rose rose' told more refusal files most weight held error.ProposeFailed grow so none light h full = absurd h
-disk_refused rose rose' told more refusal files most weight held (error.UnorderedChunk index) grow so none light h full = absurd h
-disk_refused rose rose' told more refusal files most weight held (error.Config place) grow so none light h full = absurd h
-disk_refused rose rose' told more refusal files most weight held error.StateMachineError grow so none light h full = absurd h
+disk_refused rose rose' told more refusal slot short most weight held error.LinkFault grow so means none light h full = absurd h
+disk_refused rose rose' told more refusal slot short most weight held error.FeatureNotEnabled grow so means none light h full = absurd h
+disk_refused rose rose' told more refusal slot short most weight held error.ProposeFailed grow so means none light h full = absurd h
+disk_refused rose rose' told more refusal slot short most weight held (error.UnorderedChunk index) grow so means none light h full = absurd h
+disk_refused rose rose' told more refusal slot short most weight held (error.Config place) grow so means none light h full = absurd h
+disk_refused rose rose' told more refusal slot short most weight held error.StateMachineError grow so means none light h full = absurd h
 
 some_is : (e d : Error) → Some d ≡ Some e → d ≡ e
 some_is e d p = cc p
@@ -139,13 +138,13 @@ refusal_kind P place false (Some d) e corrupt feature propose p = exhausted (is_
   exhausted true q = subst P (some_is e error.ProposeFailed q) propose
   exhausted false q = absurd (cc q)
 
-pub failure_refused : (rose rose' told more : Type 0) (refusal : Option Error) (files : Files) (most weight held place : ℕ) (l : Log) (h : Option HardState) (s : MapState) (e : Error) → (rose → rose') → (told → more)
-    → (told → refusal ≡ opening_refusal place l h s) → (told → weight ≤ opened_weight held) → IsOpeningFailure rose most (opening_refusal place l h s) e → IsFullBy more files most weight e
-    → IsRunRefusal rose' ⊥ told refusal files most held 0 e
-failure_refused rose rose' told more refusal files most weight held place l h s e grow so same light failure full = ⊎_elim
-    (λ is. refusal_kind (λ f. (told → refusal ≡ Some f) → IsRunRefusal rose' ⊥ told refusal files most held 0 f) place _ (durable l h s) e (λ r. r) (λ r. r) (λ r. r) is (λ t. same t ∙ is))
-    (λ other. ⊎_elim (λ memory. subst (IsRunRefusal rose' ⊥ told refusal files most held 0) (sym memory) (record {}))
-    (λ disk. disk_refused rose rose' told more refusal files most weight held e grow so (λ t. same t ∙ disk.0) light disk.1 full) other)
+pub failure_refused : (rose rose' told more : Type 0) (refusal : Option Error) (slot : ℕ → Type 0) (short : (most needed : ℕ) → Type 0) (most weight held place : ℕ) (l : Log) (h : Option HardState) (s : MapState) (e : Error) → (rose → rose') → (told → more)
+    → ((needed : ℕ) → told → weight ≤ most_run held 0 → slot needed → short (most_run held 0) needed) → (told → refusal ≡ opening_refusal place l h s) → (told → weight ≤ opened_weight held) → IsOpeningFailure rose most (opening_refusal place l h s) e → IsFullBy more slot most weight e
+    → IsRunRefusal rose' ⊥ told refusal short most held 0 e
+failure_refused rose rose' told more refusal slot short most weight held place l h s e grow so means same light failure full = ⊎_elim
+    (λ is. refusal_kind (λ f. (told → refusal ≡ Some f) → IsRunRefusal rose' ⊥ told refusal short most held 0 f) place _ (durable l h s) e (λ r. r) (λ r. r) (λ r. r) is (λ t. same t ∙ is))
+    (λ other. ⊎_elim (λ memory. subst (IsRunRefusal rose' ⊥ told refusal short most held 0) (sym memory) (record {}))
+    (λ disk. disk_refused rose rose' told more refusal slot short most weight held e grow so means (λ t. same t ∙ disk.0) light disk.1 full) other)
     failure
 
 -- an error that refuses is some

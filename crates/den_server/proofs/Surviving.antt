@@ -11,6 +11,7 @@ use Rattle.den_model.specs.Plan.{after, output, plan_over}
 use Rattle.den_model.specs.Image.{durable_in}
 use Rattle.den_model.specs.Crash.{IsAfterSome, Survives, Stands, SentWithin, IsServed, sent_by, bytes_of}
 use Rattle.den_model.proofs.Runs.{output_front}
+use Rattle.den_core.specs.Full.{IsReached}
 use Rattle.den_core.proofs.Lists.{added_none, sent_by_all, sent_by_none}
 use Rattle.den_core.proofs.Stretch.{goes_on}
 use Rattle.den_codec.specs.declared.config.RaftNodeConfig.{RaftNodeConfig}
@@ -102,6 +103,13 @@ pub served_from : (logs : Files → Option Log) (images : ℕ → Files → Type
 served_from logs images to left readings cut sent kv other log other_log steps same same_log s =
     subst (λ (l : Log). IsServed durable_in logs images to left readings cut sent kv l (steps kv)) same_log
     (subst (λ (k : Kv). IsServed durable_in logs images to left readings cut sent k other_log (steps k)) same s)
+
+-- the step of such a run that was refused
+pub reached_from : (steps : Kv → List Step) (sent : List ℕ) (other first : Kv) (other_log old : Log) (kv : Kv) (log : Log) (next : Step) → other ≡ first → other_log ≡ old
+    → IsReached other other_log (steps other) sent kv log next → IsReached first old (steps first) sent kv log next
+reached_from steps sent other first other_log old kv log next same same_log reached =
+    subst (λ (l : Log). IsReached first l (steps first) sent kv log next) same_log
+    (subst (λ (k : Kv). IsReached k other_log (steps k) sent kv log next) same reached)
 
 pub log_same : (r : Result Log ℕ) (x y : Log) → r ≡ Ok x → r ≡ Ok y → x ≡ y
 log_same r x y p q = cc (p, q)

@@ -20,9 +20,10 @@ use Rattle.den_model.specs.Plan.{output, plan_over}
 use Rattle.den_model.specs.Sizes.{files_size}
 use Rattle.den_model.specs.Step.{Step}
 use Rattle.den_journal.specs.Writes.{Faulted, DiskTells}
+use Rattle.den_core.specs.Full.{IsReached, IsStepTooShort}
 use Rattle.den_core.specs.Making.{GivesShortLog}
 use Rattle.den_core.specs.Spared.{SparesFamily}
-use Rattle.den_server.specs.Causes.{IsMuch, IsRunRefusal}
+use Rattle.den_server.specs.Causes.{IsCatchUpTooShort, IsMuch, IsRunRefusal}
 use Rattle.den_server.specs.Opening.{IsUnwritten, SurvivesOpening, refusal_in}
 
 -- What a configuration makes of a run: the run's part of what it begins with, the longest body of a frame, and how many
@@ -99,7 +100,25 @@ module _ {D L C : Type 0} (disk : Disks D) (link : Links L) (clock : Clocks C) w
     pub clock_goes_on : ClockGoesOn clock.tells clock.readings before after
     pub snapshot : DiskTells disk old → SparesFamily Snapshot disk.content disk.moment disk.images old new
 
--- ---- why it ends early
+  -- ---- why it ends early
+
+  module _ (config : RunConfig) (old new : D) (from to : L) (before after : C) where
+    -- The room that one slot would need, in the files as they read at the end. Either for a payload of the entries that opening
+    -- lets the map take on; or for one that a step writes, which is the next of the plan: those before it were made, with their
+    -- entries in the log, and just what they say was sent.
+    abbrev pub IsRunTooShort : (most needed : ℕ) → Type 0
+    IsRunTooShort most needed = IsCatchUpTooShort (disk.content old).reading most needed (disk.content new).reading
+        ⊎ IsStepTooShort (λ kv log next. (kept : Durable) (held : Log) → Told config old new from to before after → Reads config old new from to before after kept → log_in (disk.content old).reading ≡ Ok held
+        → IsReached (start config kept) held (planned config old new from to before after kept) (bytes_of (sent config old new from to before after)) kv log next)
+        config.max_log_entries most needed (disk.content new).reading
+
+    -- An answer other than Ok has its cause: files are refused for what they are refused for, and for nothing else; the
+    -- disk is told to be full only with a room that is above its limit and that one of its slots would need at the end for a
+    -- payload that was to be written then, and only where the bytes of its regions at entry and those taken from the link are
+    -- much.
+    abbrev pub EndsEarly : Error → Type 0
+    EndsEarly e = IsRunRefusal (Faulted disk old new) (Rose (link.faults from) (link.faults to)) (DiskTells disk old) (refusal_in (disk.content old).reading)
+        IsRunTooShort (disk.kind old).limit (files_size (disk.content old).reading) (link.taken to - link.taken from) e
 
 -- Files that are to be refused are: nothing is written, read, sent or timed.
 abbrev pub TurnsAway : {D L C : Type 0} (disk : Disks D) (refused : Error → Type 0) (old new : D) (from to : L) (before after : C) → Type 0
@@ -113,10 +132,3 @@ module _ {D L : Type 0} (disk : Disks D) (link : Links L) (old new : D) (from to
   Completes served memory = DiskTells disk old → IsTrue (link.tells from) → refusal_in (disk.content old).reading ≡ None
       → (Faulted disk old new → ⊥) → (Rose (link.faults from) (link.faults to) → ⊥)
       → (IsMuch (disk.kind old).limit (files_size (disk.content old).reading + length (link.left from)) → ⊥) → served ⊎ memory
-
-  -- An answer other than Ok has its cause: files are refused for what they are refused for, and for nothing else; the
-  -- disk is told to be full only with a room that is above its limit and that one of its slots would need at the end, and
-  -- only where the bytes of its regions at entry and those taken from the link are much.
-  abbrev pub EndsEarly : Error → Type 0
-  EndsEarly e = IsRunRefusal (Faulted disk old new) (Rose (link.faults from) (link.faults to)) (DiskTells disk old) (refusal_in (disk.content old).reading)
-      (disk.content new).reading (disk.kind old).limit (files_size (disk.content old).reading) (link.taken to - link.taken from) e

@@ -18,7 +18,7 @@ ghost use Rattle.den_store.specs.FileMeta.{meta_shown};
 ghost use Rattle.den_state.specs.FileState.{state_map, state_shown};
 ghost use Rattle.den_state.specs.Machine.{AtRest};
 ghost use Rattle.den_core.specs.Parts.{AllRest};
-ghost use Rattle.den_server.specs.Causes.{IsRunRefusal, IsUnreadFolder};
+ghost use Rattle.den_server.specs.Causes.{IsCatchUpTooShort, IsRunRefusal, IsUnreadFolder};
 ghost use Rattle.den_server.specs.Opening.{refusal_in, AllReady, IsRead, IsUnwritten, Settles, SurvivesOpening, held_weight, opened_weight};
 
 use crate::nodes::copy_nodes;
@@ -127,7 +127,7 @@ pub fn open_folder<D: Disk>(
     ensures snapshot { IsTrue (D.kind disk.old).tells → SparesFamily snapshot_family D.content D.moment D.images disk.old disk.new }
     ensures accepted { IfOk result (λ engine. IsTrue (D.kind disk.old).tells → refusal_in (D.content disk.old).reading ≡ None) }
     ensures refused { IfErr result (IsRunRefusal (Rose (D.faults disk.old) (D.faults disk.new)) ⊥ (IsTrue (D.kind disk.old).tells) (refusal_in (D.content disk.old).reading)
-        (D.content disk.new).reading (D.kind disk.old).limit (files_size (D.content disk.old).reading) 0) }
+        (λ most needed. IsCatchUpTooShort (D.content disk.old).reading most needed (D.content disk.new).reading) (D.kind disk.old).limit (files_size (D.content disk.old).reading) 0) }
     ensures untouched { (e : Error) → IsTrue (D.kind disk.old).tells → refusal_in (D.content disk.old).reading ≡ Some e
         → IsUnwritten (D.content disk.old) (D.content disk.new) (NoNewImages (D.images disk.old) (D.images disk.new) (D.moment disk.old) (D.moment disk.new)) }
 {

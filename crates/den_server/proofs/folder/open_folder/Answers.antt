@@ -9,7 +9,10 @@ use Rattle.den_core.specs.Opening.{opening_refusal, IsOpeningFailure}
 use Rattle.den_store.specs.FileLog.{log_shown, file_place}
 use Rattle.den_store.specs.FileMeta.{meta_shown}
 use Rattle.den_disk.specs.Families.{NoNewImages}
-use Rattle.den_core.specs.Full.{IsFullBy}
+use Rattle.den_core.specs.Full.{IsFullBy, IsSlotTooShort}
+use Rattle.den_core.specs.PayloadSizes.{chunk_sizes}
+use Rattle.den_core.proofs.Weighing.{same_short}
+use Rattle.den_server.specs.Causes.{IsCatchUpTooShort, most_run}
 use Rattle.den_model.specs.Log.{above}
 use Rattle.den_model.specs.Sizes.{entries_size, files_size, store_rise}
 use Rattle.den_server.specs.Opening.{refusal_in, held_weight, opened_weight, IsUnwritten}
@@ -93,7 +96,8 @@ pub returns-in-Err-open_stores-clause-refused : goal.returns-in-Err-open_stores-
 returns-in-Err-open_stores-clause-refused g c =
     let D = g.D.Disk in
     let disk = c.args.disk.now in
-    folder_refused (Rose (D.faults disk) (D.faults c.open_stores.new.disk)) (IsTrue (D.kind disk).tells) (refusal_in (D.content disk).reading) (D.content c.open_stores.new.disk).reading (D.kind disk).limit (files_size (D.content disk).reading)
+    folder_refused (Rose (D.faults disk) (D.faults c.open_stores.new.disk)) (IsTrue (D.kind disk).tells) (refusal_in (D.content disk).reading)
+    (λ most needed. IsCatchUpTooShort (D.content disk).reading most needed (D.content c.open_stores.new.disk).reading) (D.kind disk).limit (files_size (D.content disk).reading)
     c.in-Err-open_stores.error c.in-Err-open_stores.ensures.refused
 
 pub returns-clause-refused : goal.returns-clause-refused
@@ -107,14 +111,23 @@ returns-clause-refused g c = if_err_two c.recover.result _ _ _
     let entries = (log_shown stores.log).value.entries in
     let more = entries_size (above (state_map stores.state).mark.index entries) in
     let weight = held_weight stores.log stores.meta stores.state + store_rise more in
-    failure_refused rose _ (IsTrue (D.kind disk).tells) _ (refusal_in (D.content disk).reading) (D.content c.recover.new.disk).reading (D.kind disk).limit weight (files_size (D.content disk).reading) (file_place stores.log)
+    let sizes = chunk_sizes (state_map stores.state) (above (state_map stores.state).mark.index entries) in
+    failure_refused rose _ (IsTrue (D.kind disk).tells) _ (refusal_in (D.content disk).reading)
+    (λ needed. IsSlotTooShort sizes weight needed (D.content c.recover.new.disk).reading) (λ most needed. IsCatchUpTooShort (D.content disk).reading most needed (D.content c.recover.new.disk).reading) (D.kind disk).limit weight (files_size (D.content disk).reading) (file_place stores.log)
     (log_shown stores.log).value (meta_shown stores.meta).value (state_map stores.state) e
     (λ r. rose_then _ _ _ c.open_stores.ensures.disk.counts r) (λ told. (told, (tt, tt, tt)))
+    (λ needed told le short. record {
+      log = (log_shown stores.log).value;
+      map = state_map stores.state;
+      log_read = (c.in-Ok-open_stores.ensures.read told).log;
+      map_read = (c.in-Ok-open_stores.ensures.read told).map;
+      short = same_short sizes weight (most_run (files_size (D.content disk).reading) 0) needed (D.content c.recover.new.disk).reading le short;
+    })
     (λ told. read_refusal (D.content disk).reading _ _ _ _ (c.in-Ok-open_stores.ensures.read told) (c.in-Ok-open_stores.ensures.place told))
     (λ told. lighter (held_weight stores.log stores.meta stores.state) (entries_size entries) more (files_size (D.content disk).reading)
     (c.in-Ok-open_stores.ensures.weight told) (c.in-Ok-open_stores.ensures.entries told) (above_size (state_map stores.state).mark.index entries))
     (subst (λ (k : Kind). IsOpeningFailure rose k.limit refusal e) c.open_stores.ensures.disk.same failure)
-    (subst (λ (k : Kind). IsFullBy (IsTrue k.tells × (Unit {0} × Unit {0} × Unit {0})) (D.content c.recover.new.disk).reading k.limit weight e) c.open_stores.ensures.disk.same full))
+    (subst (λ (k : Kind). IsFullBy (IsTrue k.tells × (Unit {0} × Unit {0} × Unit {0})) (λ needed. IsSlotTooShort sizes weight needed (D.content c.recover.new.disk).reading) k.limit weight e) c.open_stores.ensures.disk.same full))
     c.recover.ensures.refused c.recover.ensures.full
 
 pub returns-clause-untouched : goal.returns-clause-untouched

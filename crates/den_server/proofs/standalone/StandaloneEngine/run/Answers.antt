@@ -1,15 +1,19 @@
-use Rattle.std.proofs.Common.{IsTrue, arith, ◌-◌, length, refl, sym, subst, ap, ◌∙◌}
+use Rattle.std.proofs.Common.{ℕ, IsTrue, arith, ◌-◌, length, inl, inr, refl, sym, subst, ap, ◌∙◌}
 use Rattle.std.proofs.lemmas.Result.{on_ok_weaker}
 use Rattle.den_disk.specs.Files.{Kind}
 use Rattle.den_disk.specs.Goes.{Rose, added}
-use Rattle.den_model.specs.Crash.{Tells, Survives, IsServed}
+use Rattle.den_model.specs.Crash.{Tells, Survives, IsServed, bytes_of}
 use Rattle.den_model.specs.Frames.{frames}
 use Rattle.den_model.specs.Image.{durable_in, log_in, ok}
 use Rattle.den_model.specs.Kv.{Kv}
 use Rattle.den_model.specs.Plan.{plan_over}
 use Rattle.den_model.specs.Sizes.{files_size}
 use Rattle.den_codec.specs.declared.config.RaftNodeConfig.{RaftNodeConfig}
-use Rattle.den_core.specs.Full.{IsFullBy}
+use Rattle.den_core.specs.Full.{IsFullBy, IsReached, IsStepTooShort}
+use Rattle.den_core.proofs.Weighing.{same_short, short_step}
+use Rattle.den_server.specs.Causes.{IsCatchUpTooShort}
+use Rattle.den_model.specs.Log.{Log}
+use Rattle.den_model.specs.Step.{Step}
 use Rattle.den_codec.specs.Standard.{entered}
 use Rattle.den_core.specs.Making.{GivesShortLog}
 use Rattle.den_core.specs.Parts.{kv_of}
@@ -20,10 +24,10 @@ use Rattle.den_store.specs.FileMeta.{meta_shown}
 use Rattle.den_state.specs.FileState.{state_map}
 use Rattle.den_server.specs.Opening.{refusal_in, held_weight}
 use Rattle.den_server.proofs.Ended.{rose_then, opening_ended, serving_ended, away, refused_not_read, completed}
-use Rattle.den_server.specs.Promises.{run_config}
+use Rattle.den_server.specs.Promises.{IsRunTooShort, run_config}
 use Rattle.den_server.proofs.Promised.{sends_prefix, survives_all_along, disk_alone}
 use Rattle.den_server.proofs.Refused.{if_err_two}
-use Rattle.den_server.proofs.Surviving.{of_node, opening_then, no_reading, served_from, log_same}
+use Rattle.den_server.proofs.Surviving.{of_node, opening_then, no_reading, served_from, log_same, reached_from}
 use Rattle.den_disk.specs.declared.place.Family.TheVariants.{Snapshot as snapshot_family}
 use Rattle.den_core.proofs.GoesOn.{disk_twice}
 use Rattle.den_core.proofs.Spared.{spares_twice}
@@ -54,7 +58,10 @@ returns-in-Err-clause-refused g c =
     let L = g.L.Link in
     let first = c.args.disk.now in
     opening_ended (Rose (D.faults first) (D.faults c.open_folder.new.disk)) (Rose (L.faults c.args.link.now) (L.faults c.args.link.now)) (IsTrue (D.kind first).tells) (refusal_in (D.content first).reading)
-    (D.content c.open_folder.new.disk).reading (D.kind first).limit (files_size (D.content first).reading) (L.taken c.args.link.now - L.taken c.args.link.now) c.in-Err.error c.in-Err.ensures.refused
+    (λ most needed. IsCatchUpTooShort (D.content first).reading most needed (D.content c.open_folder.new.disk).reading)
+    (IsRunTooShort D L g.C.Clock (run_config c.args.config.now.node) first c.open_folder.new.disk c.args.link.now c.args.link.now c.args.clock.now c.args.clock.now)
+    (D.kind first).limit (files_size (D.content first).reading) (L.taken c.args.link.now - L.taken c.args.link.now) c.in-Err.error
+    (λ needed le short. inl (record { log = short.log; map = short.map; log_read = short.log_read; map_read = short.map_read; short = same_short _ _ _ needed _ le short.short })) c.in-Err.ensures.refused
 
 pub returns-in-Err-clause-turned_away : goal.returns-in-Err-clause-turned_away
 returns-in-Err-clause-turned_away g c = λ e told is.
@@ -124,10 +131,29 @@ returns-clause-refused g c = if_err_two c.run_from.result _ _ _
     let taken = L.taken c.run_from.new.link - L.taken c.args.link.now in
     let link_rose = Rose (L.faults c.args.link.now) (L.faults c.run_from.new.link) in
     let rose = Rose (D.faults c.open_folder.new.disk) (D.faults c.run_from.new.disk) in
-    serving_ended rose _ link_rose (IsTrue (D.kind c.args.disk.now).tells) _ (refusal_in (D.content c.args.disk.now).reading) (D.content c.run_from.new.disk).reading (D.kind c.args.disk.now).limit weight (files_size (D.content c.args.disk.now).reading) taken e
-    (λ r. rose_then _ _ _ c.open_folder.ensures.disk.counts r) (λ told. (told, (tt, tt, tt))) (λ told. c.in-Ok.ensures.accepted told) (λ told. c.in-Ok.ensures.weight told)
+    let files = (D.content c.run_from.new.disk).reading in
+    let kv = kv_of (meta_shown engine.meta).value (state_map engine.state) engine.running in
+    let readings = added (g.C.Clock.readings c.args.clock.now) (g.C.Clock.readings c.run_from.new.clock) in
+    let sent = bytes_of (added (L.sent c.args.link.now) (L.sent c.run_from.new.link)) in
+    let begun : Kv → Log → Step → Type 0 = λ k log next. Tells (D.kind c.open_folder.new.disk).tells (L.tells c.args.link.now) (g.C.Clock.tells c.run_from.new.clock)
+    → IsReached kv (log_shown engine.log).value (plan_over kv c.node-2.result.now.network.max_frame_size (L.left c.args.link.now) readings) sent k log next in
+    let slot : ℕ → Type 0 = λ needed. IsStepTooShort begun engine.most (run_weight weight taken) needed files in
+    serving_ended rose _ link_rose (IsTrue (D.kind c.args.disk.now).tells) _ (refusal_in (D.content c.args.disk.now).reading) slot
+    (IsRunTooShort D L g.C.Clock (run_config c.args.config.now.node) c.args.disk.now c.run_from.new.disk c.args.link.now c.run_from.new.link c.args.clock.now c.run_from.new.clock)
+    (D.kind c.args.disk.now).limit weight (files_size (D.content c.args.disk.now).reading) taken e
+    (λ r. rose_then _ _ _ c.open_folder.ensures.disk.counts r) (λ told. (told, (tt, tt, tt)))
+    (λ needed told le short. inr (short_step begun _ _ _ (run_weight weight taken) _ needed files
+    (λ k log next reached kept held tells stands read.
+    let opened_tells : IsTrue (D.kind c.open_folder.new.disk).tells = subst (λ (x : Kind). IsTrue x.tells) (sym c.open_folder.ensures.disk.same) tells.disk_tells in
+    reached_from (λ k. plan_over k c.args.config.now.node.network.max_frame_size (L.left c.args.link.now) readings) sent kv (entered c.args.config.now.node kept) (log_shown engine.log).value held k log next
+    (c.in-Ok.ensures.kv kept tells.disk_tells stands ∙ ap (λ (n : RaftNodeConfig). entered n kept) c.node.ensures)
+    (log_same (log_in (D.content c.args.disk.now).reading) _ held (c.in-Ok.ensures.log tells.disk_tells) read)
+    (subst (λ (n : RaftNodeConfig). IsReached kv (log_shown engine.log).value (plan_over kv n.network.max_frame_size (L.left c.args.link.now) readings) sent k log next) c.node-2.ensures
+    (reached (record { disk_tells = opened_tells; link_tells = tells.link_tells; clock_tells = tells.clock_tells }))))
+    (c.in-Ok.ensures.most ∙ ap (λ (n : RaftNodeConfig). n.raft.max_log_entries) c.node.ensures) le short))
+    (λ told. c.in-Ok.ensures.accepted told) (λ told. c.in-Ok.ensures.weight told)
     (subst (λ (k : Kind). IsServeRefusal rose link_rose k.limit e) c.open_folder.ensures.disk.same h)
-    (subst (λ (k : Kind). IsFullBy (IsTrue k.tells × (Unit {0} × Unit {0} × Unit {0})) (D.content c.run_from.new.disk).reading k.limit (run_weight weight taken) e) c.open_folder.ensures.disk.same full))
+    (subst (λ (k : Kind). IsFullBy (IsTrue k.tells × (Unit {0} × Unit {0} × Unit {0})) slot k.limit (run_weight weight taken) e) c.open_folder.ensures.disk.same full))
     c.run_from.ensures.serves.refused c.run_from.ensures.serves.full
 
 pub returns-clause-turned_away : goal.returns-clause-turned_away
@@ -139,7 +165,8 @@ returns-clause-complete g c = λ told link_tells unrefused disk link small.
     let L = g.L.Link in
     let first = c.args.disk.now in
     completed (Rose (D.faults first) (D.faults c.run_from.new.disk)) (Rose (L.faults c.args.link.now) (L.faults c.run_from.new.link)) (IsTrue (D.kind first).tells) (refusal_in (D.content first).reading)
-    (D.content c.run_from.new.disk).reading (D.kind first).limit (files_size (D.content first).reading) (L.taken c.run_from.new.link - L.taken c.args.link.now) (length (L.left c.args.link.now)) c.run_from.result told unrefused disk link
+    (IsRunTooShort D L g.C.Clock (run_config c.args.config.now.node) first c.run_from.new.disk c.args.link.now c.run_from.new.link c.args.clock.now c.run_from.new.clock)
+    (D.kind first).limit (files_size (D.content first).reading) (L.taken c.run_from.new.link - L.taken c.args.link.now) (length (L.left c.args.link.now)) c.run_from.result told unrefused disk link
     (omega (arith, c.run_from.ensures.counted link_tells)) small (returns-clause-refused g c)
 
 pub returns-clause-goes_on : goal.returns-clause-goes_on
