@@ -5,7 +5,7 @@ ghost use Rattle.den_codec.specs.declared.error.Error.TheVariants.{OutOfMemory};
 ghost use Rattle.den_codec.specs.Standard.{IsStandard};
 ghost use Rattle.den_server.specs.Causes.{IsTurnedAway};
 ghost use Rattle.den_server.specs.Opening.{refusal_in};
-ghost use Rattle.den_server.specs.Promises.{Served, KeepsLogShort, SendsPrefix, SurvivesCrash, SurvivesPending, EndsEarly, TurnsAway, Completes, AllGoOn};
+ghost use Rattle.den_server.specs.Promises.{Served, KeepsLogShort, KeepsTailShort, SendsPrefix, SurvivesCrash, SurvivesPending, EndsEarly, TurnsAway, Completes, AllGoOn};
 ghost use Rattle.den_program.specs.Serving.{standard_run, EndsWith, IsRefusedStatus, IsLine, IsLineFront};
 ghost use Rattle.den_program.specs.Status.{status_of_error};
 ghost use Rattle.den_program.specs.Words.{folder_in};
@@ -39,6 +39,7 @@ fn serve_words<D: Disk, L: Link, C: Clock>(
 ) -> Answer
     ensures served { result ≡ Some (Ok tt) → Served D.Disk L.Link C.Clock standard_run disk.old disk.new link.old link.new clock.old clock.new }
     ensures short { result ≡ Some (Ok tt) → KeepsLogShort D.Disk L.Link C.Clock standard_run disk.old disk.new link.old link.new clock.old clock.new }
+    ensures state_short { result ≡ Some (Ok tt) → KeepsTailShort D.Disk L.Link C.Clock standard_run disk.old disk.new link.old link.new clock.old clock.new }
     ensures prefix { SendsPrefix D.Disk L.Link C.Clock standard_run disk.old disk.new link.old link.new clock.old clock.new }
     ensures any_moment { SurvivesCrash D.Disk L.Link C.Clock standard_run disk.old disk.new link.old link.new clock.old clock.new }
     ensures opening { SurvivesPending D.Disk L.Link C.Clock standard_run disk.old disk.new link.old link.new clock.old clock.new (result ≡ Some (Ok tt)) }
@@ -77,6 +78,9 @@ pub fn serve_main<D: Disk, L: Link, C: Clock, S: Source, E: Sink>(
 
     // The log that the files give then holds no more entries than the configuration allows.
     ensures short { result ≡ 0 → KeepsLogShort D.Disk L.Link C.Clock standard_run disk.old disk.new link.old link.new clock.old clock.new }
+
+    // And in the journal of the map fewer than 1,000 records follow the last Begin region.
+    ensures state_short { result ≡ 0 → KeepsTailShort D.Disk L.Link C.Clock standard_run disk.old disk.new link.old link.new clock.old clock.new }
 
     // At every exit what was sent is a front of the plan's output.
     ensures prefix { SendsPrefix D.Disk L.Link C.Clock standard_run disk.old disk.new link.old link.new clock.old clock.new }

@@ -1,10 +1,11 @@
 -- What a run promises, of the disk, the link and the clock that it is lent, as they are at entry and at its end.
-use Rattle.std.specs.Prelude.{◌≡◌, ◌⊎◌, ◌+◌, ◌-◌, ℕ, List, Some, None, Ok, IsTrue, length}
+use Rattle.std.specs.Prelude.{◌≡◌, ◌⊎◌, ◌<◌, ◌+◌, ◌-◌, ℕ, List, Some, None, Ok, IsTrue, length}
 use Rattle.den_disk.specs.declared.clock.Clock.{Ghosts as Clocks}
 use Rattle.den_disk.specs.declared.disk.Disk.{Ghosts as Disks}
 use Rattle.den_disk.specs.declared.link.Link.{Ghosts as Links}
-use Rattle.den_disk.specs.declared.place.Family.TheVariants.{Snapshot}
+use Rattle.den_disk.specs.declared.place.Family.TheVariants.{Snapshot, State}
 use Rattle.den_disk.specs.Families.{NoNewImages}
+use Rattle.den_disk.specs.Files.{Files}
 use Rattle.den_disk.specs.Goes.{Rose, IsPrefix, DiskGoesOn, LinkGoesOn, ClockGoesOn, added}
 use Rattle.den_codec.specs.declared.config.RaftNodeConfig.{RaftNodeConfig}
 use Rattle.den_codec.specs.declared.error.Error.{Error}
@@ -13,13 +14,14 @@ use Rattle.den_model.specs.declared.running.Running.{Running}
 use Rattle.den_model.specs.Crash.{IsServed, Stands, Survives, bytes_of}
 use Rattle.den_model.specs.Crash.{Tells}
 use Rattle.den_model.specs.Frames.{frames}
-use Rattle.den_model.specs.Image.{durable_in, log_in, ok}
+use Rattle.den_model.specs.Image.{durable_in, in_regions, log_in, ok}
 use Rattle.den_model.specs.Kv.{Durable, Kv}
 use Rattle.den_model.specs.Log.{Log}
 use Rattle.den_model.specs.Plan.{output, plan_over}
 use Rattle.den_model.specs.Sizes.{files_size}
 use Rattle.den_model.specs.Step.{Step}
 use Rattle.den_journal.specs.Writes.{Faulted, DiskTells}
+use Rattle.den_state.specs.Stored.{Stored, nothing_stored, stored_from}
 use Rattle.den_core.specs.Full.{IsReached, IsStepTooShort}
 use Rattle.den_core.specs.Making.{GivesShortLog}
 use Rattle.den_core.specs.Spared.{SparesFamily}
@@ -72,6 +74,11 @@ module _ {D L C : Type 0} (disk : Disks D) (link : Links L) (clock : Clocks C) w
     -- each image of the disk gives a log of no more entries than the configuration allows
     abbrev pub KeepsLogShort : Type 0
     KeepsLogShort = DiskTells disk old → GivesShortLog (λ files. ok (log_in files)) (disk.images new) (disk.moment new) config.max_log_entries
+
+    -- each image of the disk gives a journal of the map in which fewer than 1,000 records follow the last Begin region
+    abbrev pub KeepsTailShort : Type 0
+    KeepsTailShort = DiskTells disk old → (files : Files) → disk.images new (disk.moment new) files
+        → (stored : Stored) × (ok (in_regions State (stored_from nothing_stored) files) ≡ Some stored) × (stored.tail < 1000)
 
     -- what was sent is a front of the plan's output
     abbrev pub SendsPrefix : Type 0

@@ -2,7 +2,7 @@
 ghost use Rattle.std.specs.Prelude.{◌≡◌, Ok, Err, IsOk, OnOk, IfErr};
 ghost use Rattle.den_codec.specs.declared.error.Error.TheVariants.{OutOfMemory};
 ghost use Rattle.den_server.specs.Causes.{IsTurnedAway};
-ghost use Rattle.den_server.specs.Promises.{Served, KeepsLogShort, SendsPrefix, SurvivesCrash, SurvivesPending, EndsEarly, TurnsAway, Completes, AllGoOn, run_config};
+ghost use Rattle.den_server.specs.Promises.{Served, KeepsLogShort, KeepsTailShort, SendsPrefix, SurvivesCrash, SurvivesPending, EndsEarly, TurnsAway, Completes, AllGoOn, run_config};
 
 use crate::folder::open_folder;
 use den_codec::{Error, SoloConfig};
@@ -32,6 +32,9 @@ impl StandaloneEngine {
 
         // At Ok the log that the files give holds no more entries than the configuration allows.
         ensures short { OnOk result (KeepsLogShort D.Disk L.Link C.Clock (run_config config.now.node) disk.old disk.new link.old link.new clock.old clock.new) }
+
+        // At Ok fewer than 1,000 records follow the last Begin region of the map's journal.
+        ensures state_short { OnOk result (KeepsTailShort D.Disk L.Link C.Clock (run_config config.now.node) disk.old disk.new link.old link.new clock.old clock.new) }
 
         // At every exit what was sent is a front of the plan's output.
         ensures prefix { SendsPrefix D.Disk L.Link C.Clock (run_config config.now.node) disk.old disk.new link.old link.new clock.old clock.new }

@@ -59,3 +59,6 @@ returns-clause-line_front g c = λ told.
     subst (λ (n : ℕ). IsLineFront (IsTrue (D.kind disk).tells) refusal n (E.written c.args.errs.now) (E.written c.tell.new.errs)) (sym c.status_of.ensures)
     (front_is (Rose (D.faults disk) (D.faults c.serve_words-answer.new.disk)) (Rose (L.faults c.args.link.now) (L.faults c.serve_words-answer.new.link)) (IsTrue (D.kind disk).tells) refusal
     (IsRunTooShort D L g.C.Clock standard_run disk c.serve_words-answer.new.disk c.args.link.now c.serve_words-answer.new.link c.args.clock.now c.serve_words-answer.new.clock) (D.kind disk).limit (files_size (D.content disk).reading) (L.taken c.serve_words-answer.new.link - L.taken c.args.link.now) c.serve_words-answer.result _ _ c.serve_words-answer.ensures.refused (c.tell.ensures.front told))
+
+pub returns-clause-state_short : goal.returns-clause-state_short
+returns-clause-state_short g c = λ is. c.serve_words-answer.ensures.state_short (ok_at_0 c.serve_words-answer.result (sym c.status_of.ensures ∙ is))

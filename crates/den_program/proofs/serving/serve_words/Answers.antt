@@ -1,5 +1,5 @@
 use Rattle.std.proofs.Common.{IsOk, IfErr}
-use Rattle.den_server.specs.Promises.{EndsEarly, Served, KeepsLogShort, SendsPrefix, SurvivesCrash, SurvivesPending}
+use Rattle.den_server.specs.Promises.{EndsEarly, Served, KeepsLogShort, KeepsTailShort, SendsPrefix, SurvivesCrash, SurvivesPending}
 use Rattle.den_server.proofs.Promised.{survives_all_along, no_call_survives, no_call_goes_on, less_known}
 use Rattle.den_program.specs.Serving.{standard_run}
 use Rattle.den_program.proofs.Served.{under_standard}
@@ -62,3 +62,8 @@ returns-clause-turned_away g c = λ some e told is. c.run.ensures.turned_away e 
 pub returns-clause-refused : goal.returns-clause-refused
 returns-clause-refused g c = under_standard (λ config. IfErr c.run.result (EndsEarly g.D.Disk g.L.Link g.C.Clock config c.args.disk.now c.run.new.disk c.args.link.now c.run.new.link c.args.clock.now c.run.new.clock))
     c.in-Ok.config.node c.in-Ok.ensures.standard c.run.ensures.refused
+
+pub returns-clause-state_short : goal.returns-clause-state_short
+returns-clause-state_short g c = λ is.
+    under_standard (λ config. KeepsTailShort g.D.Disk g.L.Link g.C.Clock config c.args.disk.now c.run.new.disk c.args.link.now c.run.new.link c.args.clock.now c.run.new.clock)
+    c.in-Ok.config.node c.in-Ok.ensures.standard (at_ok c.run.result is c.run.ensures.state_short)

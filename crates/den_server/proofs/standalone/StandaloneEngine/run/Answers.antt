@@ -21,15 +21,17 @@ use Rattle.den_core.specs.Refusals.{IsServeRefusal}
 use Rattle.den_core.specs.Weights.{run_weight}
 use Rattle.den_store.specs.FileLog.{log_shown}
 use Rattle.den_store.specs.FileMeta.{meta_shown}
-use Rattle.den_state.specs.FileState.{state_map}
+use Rattle.den_state.specs.FileState.{state_map, stored_of}
+use Rattle.den_state.specs.Stored.{nothing_stored, stored_from}
+use Rattle.den_journal.specs.Lies.{gives_hold}
 use Rattle.den_server.specs.Opening.{refusal_in, held_weight}
 use Rattle.den_server.proofs.Ended.{rose_then, opening_ended, serving_ended, away, refused_not_read, completed}
 use Rattle.den_server.specs.Promises.{IsRunTooShort, run_config}
 use Rattle.den_server.proofs.Promised.{sends_prefix, survives_all_along, disk_alone}
 use Rattle.den_server.proofs.Refused.{if_err_two}
 use Rattle.den_server.proofs.Surviving.{of_node, opening_then, no_reading, served_from, log_same, reached_from}
-use Rattle.den_disk.specs.declared.place.Family.TheVariants.{Snapshot as snapshot_family}
-use Rattle.den_core.proofs.GoesOn.{disk_twice}
+use Rattle.den_disk.specs.declared.place.Family.TheVariants.{Snapshot as snapshot_family, State}
+use Rattle.den_core.proofs.GoesOn.{disk_twice, on_ok_three}
 use Rattle.den_core.proofs.Spared.{spares_twice}
 use Rattle.den_server.proofs.standalone.StandaloneEngine.run.Goals as goal
 
@@ -185,3 +187,15 @@ returns-clause-short g c = on_ok_weaker c.run_from.result (λ short told.
     let opened_tells : IsTrue (D.kind c.open_folder.new.disk).tells = subst (λ (k : Kind). IsTrue k.tells) (sym c.open_folder.ensures.disk.same) told in
     subst (λ n. GivesShortLog (λ files. ok (log_in files)) (D.images last) (D.moment last) n) (c.in-Ok.ensures.most ∙ ap (λ (n : RaftNodeConfig). n.raft.max_log_entries) c.node.ensures)
     (short opened_tells (tt, tt, tt))) c.run_from.ensures.short
+
+pub returns-clause-state_short : goal.returns-clause-state_short
+returns-clause-state_short g c = on_ok_three c.run_from.result (λ short ready rests told files at.
+    let D = g.D.Disk in
+    let last = c.run_from.new.disk in
+    let state = c.run_from.new.stepper.state in
+    let opened_tells : IsTrue (D.kind c.open_folder.new.disk).tells = subst (λ (k : Kind). IsTrue k.tells) (sym c.open_folder.ensures.disk.same) told in
+    let last_tells : IsTrue (D.kind last).tells = subst (λ (k : Kind). IsTrue k.tells) (sym c.run_from.ensures.serves.goes_on.same) opened_tells in (
+      stored_of state,
+      gives_hold State (stored_from nothing_stored) state.journal.gate (stored_of state) (D.content last) files (rests opened_tells).state.rests ((g.met.D.Disk.images_now last files last_tells).0 at),
+      short,
+    )) c.run_from.ensures.state_short c.run_from.ensures.serves.ready c.run_from.ensures.serves.rests
