@@ -1,5 +1,5 @@
 -- What a family of one word keeps while it is written.
-use Rattle.std.proofs.Common.{◌≡◌, ◌⊎◌, inl, inr, ⊎_elim, ℕ, ◌≤◌, IsTrue, List, [], ◌∷◌, length, take, get_or, Result, Ok, Err, refl, sym, ap, ◌∙◌, subst, arith}
+use Rattle.std.proofs.Common.{◌≡◌, ◌⊎◌, inl, inr, ⊎_elim, ℕ, ◌≤◌, IsTrue, List, [], ◌∷◌, length, take, get_or, Option, None, Result, Ok, Err, refl, sym, ap, ◌∙◌, subst, arith}
 use Rattle.std.specs.Prelude.{IsErr}
 use Rattle.std.proofs.Math.Nat.{le_refl}
 use Rattle.std.proofs.lemmas.Bool.{cases_lt}
@@ -15,6 +15,7 @@ use Rattle.den_disk.proofs.Images.{itself}
 use Rattle.den_disk.proofs.Moments.{and_then, weaker}
 use Rattle.den_model.specs.Regions.{Region, open_regions, placed}
 use Rattle.den_model.specs.Image.{slot_of}
+use Rattle.den_codec.specs.declared.error.Error.{Error}
 use Rattle.den_gate.specs.declared.error.GateError.{GateError}
 use Rattle.den_gate.specs.declared.error.GateError.TheVariants as cause
 use Rattle.den_gate.specs.declared.gate.GateFile.{GateFile}
@@ -25,7 +26,7 @@ use Rattle.den_gate.specs.Gate.{payloads, IsAtRest, IsCurrent}
 use Rattle.den_gate.specs.Draft.{other_slot, Flips, KeepsList, PassesLimit, RestsWith, Rewrites, WritesOwn}
 use Rattle.den_gate.proofs.Alone.{Law}
 use Rattle.den_gate.proofs.Families.{rest_list, rest_image}
-use Rattle.den_journal.specs.OneWord.{family_regions, HasOne, HasWords, IsKept, IsOne, IsUnwritten, KeepsOrEmpties, WritesOne}
+use Rattle.den_journal.specs.OneWord.{family_regions, one_of, GivesAsBefore, HasOne, HasWords, IsKept, IsOne, IsUnwritten, KeepsOrEmpties, WritesOne}
 use Rattle.den_journal.specs.Refused.{refusal}
 use Rattle.den_journal.specs.Writes.{GoesOn, DiskTells, Faulted}
 use Rattle.den_journal.proofs.Emptying.{regions_same, read_leaves}
@@ -83,6 +84,27 @@ module _ {D : Type 0} (disk : Ghosts D) (law : Law disk) (family : Family) (word
       let read : HasWords family was reading = all reading ((law old reading tells).1 (λ q. itself (disk.content old).pending q (reading q))) in
       ⊎_elim (λ one. inr one) (λ kept. ⊎_elim (λ before. inl (before.same ∙ all before.origin before.was)) (λ none. absurd (readable (placed 0 was) (family_regions family reading) none.0 read)) kept)
       (run.each t files low high i)
+
+-- what gives no regions gives no value
+none_of : {A : Type 0} (read : List ℕ → Option A) (found : Result (List Region) ℕ) → IsErr found → one_of read found ≡ None
+none_of read (Ok rs) bad = absurd (cc bad)
+none_of read (Err offset) bad = refl
+
+-- A crash in a writing of one word leaves files that give what files gave before it, or that word.
+pub value_kept : {D A T : Type 0} (disk : Ghosts D) (law : Law disk) (family : Family) (word : List ℕ) (read : List ℕ → Option A) (old new : D) (result : Result T Error) → WritesOne disk family word old new result
+    → DiskTells disk old → (t : ℕ) (files : Files) → disk.moment old ≤ t → t ≤ disk.moment new → disk.images new t files
+    → HasOne family word files ⊎ GivesAsBefore family read (disk.images old (disk.moment old)) files
+value_kept disk law family word read old new result w tells t files low high i =
+    let reading = (disk.content old).reading in
+    ⊎_elim (λ one. inl one)
+    (λ kept. inr (⊎_elim
+    (λ before. record { origin = before.origin; was = before.was; same = ap (one_of read) before.same })
+    (λ none. record {
+      origin = reading;
+      was = (law old reading tells).1 (λ q. itself (disk.content old).pending q (reading q));
+      same = ap (one_of read) none.1 ∙ sym (none_of read (family_regions family reading) none.0);
+    }) kept))
+    ((w.any_moment tells).each t files low high i)
 
 -- ---- a family that was not loaded
 

@@ -49,6 +49,12 @@ pub record IsAsBefore (family : Family) (before : Files → Type 0) (files : Fil
   pub was : before origin
   pub same : family_regions family files ≡ family_regions family origin
 
+-- files that give what files give that a crash before might have left
+pub record GivesAsBefore {A : Type 0} (family : Family) (read : List ℕ → Option A) (before : Files → Type 0) (files : Files) : Type 0 where
+  pub origin : Files
+  pub was : before origin
+  pub same : one_in family read files ≡ one_in family read origin
+
 -- the same regions as these files, or none
 abbrev pub KeepsOrEmpties : Family → Files → Files → Type 0
 KeepsOrEmpties family was files = (family_regions family files ≡ family_regions family was) ⊎ HasWords family [] files
