@@ -6,4 +6,5 @@ pub mod FileState
 pub mod Folds
 pub mod Light
 pub mod Machine
+pub mod Regions
 pub mod Stored

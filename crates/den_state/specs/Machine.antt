@@ -1,10 +1,8 @@
 -- What contracts see of a state machine.
-use Rattle.std.specs.Prelude.{◌≡◌, ◌↔◌, ◌⊎◌, ℕ, Bool, List, Option, Some, ◌+◌, [], ◌∷◌, ◌++◌, Result, IfErr, OnOk}
+use Rattle.std.specs.Prelude.{◌≡◌, ◌↔◌, ℕ, Bool, Option, Some, ◌+◌, [], ◌∷◌, Result, IfErr, OnOk}
 use Rattle.std.proofs.Common.{◌∙◌, ap}
 use Rattle.den_disk.specs.declared.disk.Disk.{Ghosts}
 use Rattle.den_disk.specs.declared.place.Family.{Family}
-use Rattle.den_disk.specs.declared.place.Place.{Place}
-use Rattle.den_gate.specs.Slot.{payloads_of}
 use Rattle.den_disk.specs.Files.{Files, Content, IsImage}
 use Rattle.den_disk.specs.Families.{SparesOwn}
 use Rattle.den_codec.specs.declared.error.Error.{Error}
@@ -15,7 +13,6 @@ use Rattle.den_journal.specs.Causes.{IsFullFor, IsRefusal}
 use Rattle.den_journal.specs.Lies.{Lies}
 use Rattle.den_journal.specs.Shown.{Effect, Held, Shown}
 use Rattle.den_journal.specs.Writes.{Faulted, GoesOn, Moves, DiskTells}
-use Rattle.den_state.specs.Checkpoint.{IsCheckpoint}
 use Rattle.den_state.specs.declared.file_machine.SnapshotMetadata.{SnapshotMetadata}
 
 -- whether a lease is configured, whether it runs, and what was last said of a snapshot
@@ -44,19 +41,6 @@ pub record StaysAs {S : Type 0} (shown : S → Shown MapState) (short : S → Ty
   pub same_short : short old → short new
   pub same_ready : (shown old).ready ↔ (shown new).ready
   pub same_rests : (c : Content) → (shown old).rests c → (shown new).rests c
-
--- one region of this word was added to the slot
-abbrev pub Adds : {D : Type 0} → Ghosts D → (slot : Place) (old new : D) → List ℕ → Type 0
-Adds disk slot old new word = DiskTells disk old → payloads_of ((disk.content new).reading slot) ≡ payloads_of ((disk.content old).reading slot) ++ word ∷ []
-
--- the payloads of the slot are a checkpoint of the map
-abbrev pub HoldsCheckpoint : {D : Type 0} → Ghosts D → (slot : Place) (old new : D) → MapState → Type 0
-HoldsCheckpoint disk slot old new map = DiskTells disk old → IsCheckpoint map (payloads_of ((disk.content new).reading slot))
-
--- The files of a call that made a change: one region of this word more in the slot, which stays in use, or a checkpoint of
--- the map in the one that is in use now.
-abbrev pub AddsOrRenews : {D : Type 0} → Ghosts D → (slot now : Place) (old new : D) → List ℕ → MapState → Type 0
-AddsOrRenews disk slot now old new word map = ((now ≡ slot) × Adds disk slot old new word) ⊎ HoldsCheckpoint disk now old new map
 
 -- The last call of a store, which may write. What it leaves on the disk gives the value that it was to store, where the
 -- store tells what files give.

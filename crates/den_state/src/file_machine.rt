@@ -1,5 +1,5 @@
 //! The state machine in files.
-ghost use Rattle.std.specs.Prelude.{◌≡◌, ◌≤◌, ◌⊎◌};
+ghost use Rattle.std.specs.Prelude.{◌≡◌, ◌≤◌, ◌<◌, ◌⊎◌};
 
 use crate::StateMachine;
 use crate::checkpoint::write_anew;
@@ -45,7 +45,7 @@ fn later(one: LogId, other: LogId) -> LogId
 }
 
 impl FileStateMachine {
-    ghost use Rattle.std.specs.Prelude.{◌&&◌, [], ◌∷◌, false, true, None, IfSome, is_some, IfOk, IfErr, OnOk, length};
+    ghost use Rattle.std.specs.Prelude.{◌&&◌, ◌+◌, ◌-◌, ◌^◌, [], ◌∷◌, false, true, None, IfSome, is_some, IfOk, IfErr, OnOk, length, min};
     ghost use Rattle.den_disk.specs.declared.place.Family.TheVariants.{State as state_family};
     ghost use Rattle.den_model.specs.Image.{map_in};
     ghost use Rattle.den_model.specs.MapState.{map_applied_all, results_of};
@@ -60,7 +60,7 @@ impl FileStateMachine {
     ghost use Rattle.den_model.specs.declared.journal.JournalRecord.TheVariants.{Cleanup};
     ghost use Rattle.den_state.specs.Checkpoint.{renew_change};
     ghost use Rattle.den_state.specs.FileState.{HasShortTail, map_held, state_map, state_settings, state_shown};
-    ghost use Rattle.den_state.specs.Machine.{Adds, AddsOrRenews, HoldsCheckpoint};
+    ghost use Rattle.den_state.specs.Regions.{Adds, AddsOrRenews, HoldsCheckpoint};
     ghost use Rattle.den_model.specs.declared.region.StateRegion.TheVariants.{Records};
     ghost use Rattle.den_model.specs.Spelling.{state_region_word};
     ghost use Rattle.den_map.specs.Journal.{all_recorded};
@@ -109,6 +109,7 @@ impl FileStateMachine {
         ensures region { OnOk result (Adds D.Disk self.old.journal.gate.slot disk.old disk.new
             (state_region_word (Records (all_recorded (state_shown self.old).value chunk.now)))) }
         ensures slot { self.new.journal.gate.slot ≡ self.old.journal.gate.slot }
+        ensures tail { OnOk result (self.new.journal.held.tail ≡ min (self.old.journal.held.tail + length chunk.now) (2 ^ 64 - 1)) }
         ensures settings { state_settings self.new ≡ state_settings self.old }
     {
         let journaled = self.journal.held().map.journal(self.alloc, chunk)?;
@@ -147,8 +148,9 @@ impl FileStateMachine {
         ensures map { state_map self.new ≡ state_map self.old }
         ensures value { (state_shown self.new).value ≡ (state_shown self.old).value }
         ensures short { OnOk result (HasShortTail self.new) }
-        ensures files { OnOk result (((self.new ≡ self.old) × (disk.new ≡ disk.old))
-            ⊎ HoldsCheckpoint D.Disk self.new.journal.gate.slot disk.old disk.new (state_shown self.old).value) }
+        ensures few { HasShortTail self.old → (self.new ≡ self.old) × (disk.new ≡ disk.old) }
+        ensures many { OnOk result (1000 ≤ self.old.journal.held.tail
+            → HoldsCheckpoint D.Disk self.new.journal.gate.slot disk.old disk.new (state_shown self.old).value) }
         ensures failed { IfErr result (λ e. (state_shown self.new).ready → ⊥) }
         ensures settings { state_settings self.new ≡ state_settings self.old }
     {
@@ -170,7 +172,7 @@ impl FileStateMachine {
         ensures same { IfErr result (λ e. (state_shown self.new).ready → state_map self.new ≡ state_map self.old) }
         ensures kept { IfErr result (λ e. IsOfDisk e → (state_map self.new ≡ state_map self.old) ⊎ (state_map self.new ≡ map_applied_all (state_map self.old) chunk.now)) }
         ensures short { OnOk result (HasShortTail self.new) }
-        ensures region { OnOk result (AddsOrRenews D.Disk self.old.journal.gate.slot self.new.journal.gate.slot disk.old disk.new
+        ensures region { OnOk result (AddsOrRenews D.Disk self.old.journal self.new.journal disk.old disk.new (length chunk.now)
             (state_region_word (Records (all_recorded (state_shown self.old).value chunk.now))) (state_shown self.new).value) }
         ensures settings { state_settings self.new ≡ state_settings self.old }
     {
@@ -195,6 +197,7 @@ impl FileStateMachine {
         ensures sorted { IfOk result (λ keys. IsStrictlySortedBy by_bytes keys) }
         ensures region { OnOk result (Adds D.Disk self.old.journal.gate.slot disk.old disk.new (state_region_word (Records (Cleanup moment ∷ [])))) }
         ensures slot { self.new.journal.gate.slot ≡ self.old.journal.gate.slot }
+        ensures tail { OnOk result (self.new.journal.held.tail ≡ min (self.old.journal.held.tail + 1) (2 ^ 64 - 1)) }
         ensures settings { state_settings self.new ≡ state_settings self.old }
     {
         let due = prepare(self.alloc, &self.journal.held().map, moment)?;
@@ -217,7 +220,7 @@ impl FileStateMachine {
         ensures keys { IfOk result (λ keys. keys ≡ removed_where (state_settings self.old).leased moment (state_map self.old)) }
         ensures sorted { IfOk result (λ keys. IsStrictlySortedBy by_bytes keys) }
         ensures short { OnOk result (HasShortTail self.new) }
-        ensures region { OnOk result (AddsOrRenews D.Disk self.old.journal.gate.slot self.new.journal.gate.slot disk.old disk.new
+        ensures region { OnOk result (AddsOrRenews D.Disk self.old.journal self.new.journal disk.old disk.new 1
             (state_region_word (Records (Cleanup moment ∷ []))) (state_shown self.new).value) }
         ensures settings { state_settings self.new ≡ state_settings self.old }
     {
@@ -252,9 +255,26 @@ impl FileStateMachine {
 }
 
 impl<D: Disk> StateMachine<D> for FileStateMachine {
-    ghost use Rattle.std.specs.Prelude.{refl};
+    ghost use Rattle.std.specs.Prelude.{◌&&◌, [], ◌∷◌, false, true, None, Some, Err, IfSome, IfOk, IfErr, IsOk, OnOk, length, max, refl};
+    ghost use Rattle.std.specs.List.Sorted.{IsStrictlySortedBy};
+    ghost use Rattle.den_disk.specs.declared.place.Family.TheVariants.{State as state_family};
+    ghost use Rattle.den_model.specs.declared.journal.JournalRecord.TheVariants.{Cleanup};
+    ghost use Rattle.den_model.specs.declared.region.StateRegion.TheVariants.{Mark, Records};
+    ghost use Rattle.den_model.specs.MapState.{empty_map, map_applied_all, results_of};
+    ghost use Rattle.den_model.specs.Spelling.{state_region_word};
+    ghost use Rattle.den_model.specs.Table.{by_bytes};
+    ghost use Rattle.den_lease.specs.Due.{has_due};
+    ghost use Rattle.den_map.specs.Journal.{all_recorded};
+    ghost use Rattle.den_journal.specs.Causes.{IsOfDisk};
+    ghost use Rattle.den_journal.specs.Writes.{StoreStands, Writes};
+    ghost use Rattle.den_state.specs.Changes.{chunk_change, cleanup_change, mark_change, reset_change};
+    ghost use Rattle.den_state.specs.Checkpoint.{renew_change};
+    ghost use Rattle.den_state.specs.Chunk.{refusal_of_chunk};
+    ghost use Rattle.den_state.specs.Cleanup.{cleaned_where, removed_where};
     ghost use Rattle.den_state.specs.FileState.{HasShortTail, map_held, state_lies, state_map, state_settings, state_shown};
     ghost use Rattle.den_state.specs.Light.{weight_light};
+    ghost use Rattle.den_state.specs.Machine.{Closes};
+    ghost use Rattle.den_state.specs.Regions.{Adds, AddsOrRenews, HoldsCheckpoint};
 
     ghost shown = { state_shown };
 
@@ -263,8 +283,6 @@ impl<D: Disk> StateMachine<D> for FileStateMachine {
     ghost map = { state_map };
 
     ghost settings = { state_settings };
-
-    ghost slot = { λ s. s.journal.gate.slot };
 
     /// Fewer than 1,000 records follow the last Begin region.
     ghost short = { HasShortTail };
@@ -279,7 +297,23 @@ impl<D: Disk> StateMachine<D> for FileStateMachine {
 
     /// A chunk that is refused for its order or for want of a lease leaves all as it was, as does one without entries.
     /// Any other adds one region to the journal, or writes the map anew behind it.
-    fn apply_chunk(&mut self, disk: &mut D, chunk: &[Entry]) -> Result<Rows<ApplyResult>, Error> {
+    fn apply_chunk(&mut self, disk: &mut D, chunk: &[Entry]) -> Result<Rows<ApplyResult>, Error>
+        requires stands { StoreStands D.Disk (state_shown self.old) disk.old }
+        ensures turned_away { IfSome (refusal_of_chunk (state_settings self.old).leased (state_map self.old).mark.index chunk.now)
+            (λ e. (result ≡ Err e) × (self.new ≡ self.old) × (disk.new ≡ disk.old)) }
+        ensures writes { refusal_of_chunk (state_settings self.old).leased (state_map self.old).mark.index chunk.now ≡ None
+            → Writes D.Disk (state_shown self.old) (state_shown self.new) disk.old disk.new state_family map_held (chunk_change (state_shown self.old).value chunk.now) result }
+        ensures applied { OnOk result (state_map self.new ≡ map_applied_all (state_map self.old) chunk.now) }
+        ensures results { IfOk result (λ results. results ≡ results_of (state_map self.old) chunk.now) }
+        ensures stored { OnOk result (1 ≤ length chunk.now → (state_shown self.new).value ≡ state_map self.new) }
+        ensures same { IfErr result (λ e. (state_shown self.new).ready → state_map self.new ≡ state_map self.old) }
+        ensures kept { IfErr result (λ e. IsOfDisk e → (state_map self.new ≡ state_map self.old) ⊎ (state_map self.new ≡ map_applied_all (state_map self.old) chunk.now)) }
+        ensures nothing { chunk.now ≡ [] → (self.new ≡ self.old) × (disk.new ≡ disk.old) × IsOk result }
+        ensures short { OnOk result (1 ≤ length chunk.now → HasShortTail self.new) }
+        ensures settings { state_settings self.new ≡ state_settings self.old }
+        ensures region { OnOk result (1 ≤ length chunk.now → AddsOrRenews D.Disk self.old.journal self.new.journal disk.old disk.new (length chunk.now)
+            (state_region_word (Records (all_recorded (state_shown self.old).value chunk.now))) (state_shown self.new).value) }
+    {
         if let Some(index) = out_of_order(self.applied.index, chunk) {
             return Err(Error::UnorderedChunk { index });
         }
@@ -297,7 +331,17 @@ impl<D: Disk> StateMachine<D> for FileStateMachine {
     }
 
     /// Adds one region of the mark to the journal.
-    fn persist_last_applied(&mut self, disk: &mut D, last_applied: LogId) -> Result<(), Error> {
+    fn persist_last_applied(&mut self, disk: &mut D, last_applied: LogId) -> Result<(), Error>
+        requires stands { StoreStands D.Disk (state_shown self.old) disk.old }
+        requires above { (state_map self.old).mark.index ≤ last_applied.index }
+        ensures writes { Writes D.Disk (state_shown self.old) (state_shown self.new) disk.old disk.new state_family map_held (mark_change (state_shown self.old).value last_applied) result }
+        ensures map { OnOk result (state_map self.new ≡ record (state_map self.old) { mark = last_applied }) }
+        ensures same { IfErr result (λ e. state_map self.new ≡ state_map self.old) }
+        ensures settings { state_settings self.new ≡ state_settings self.old }
+        ensures short { HasShortTail self.old → HasShortTail self.new }
+        ensures region { OnOk result (Adds D.Disk self.old.journal.gate.slot disk.old disk.new (state_region_word (Mark last_applied.index last_applied.term))) }
+        ensures slot { self.new.journal.gate.slot ≡ self.old.journal.gate.slot }
+    {
         let region = StateRegion::Mark {
             index: last_applied.index,
             term: last_applied.term,
@@ -312,7 +356,17 @@ impl<D: Disk> StateMachine<D> for FileStateMachine {
     }
 
     /// Adds one region of the mark to the journal, where it is not the stored one.
-    fn save_hard_state(&mut self, disk: &mut D) -> Result<(), Error> {
+    fn save_hard_state(&mut self, disk: &mut D) -> Result<(), Error>
+        requires stands { StoreStands D.Disk (state_shown self.old) disk.old }
+        ensures writes { Writes D.Disk (state_shown self.old) (state_shown self.new) disk.old disk.new state_family map_held (mark_change (state_shown self.old).value (state_map self.old).mark) result }
+        ensures map { state_map self.new ≡ state_map self.old }
+        ensures nothing { (state_shown self.old).value.mark ≡ (state_map self.old).mark → (self.new ≡ self.old) × (disk.new ≡ disk.old) × IsOk result }
+        ensures settings { state_settings self.new ≡ state_settings self.old }
+        ensures short { HasShortTail self.old → HasShortTail self.new }
+        ensures region { OnOk result (((state_shown self.old).value.mark ≡ (state_map self.old).mark → ⊥) → Adds D.Disk self.old.journal.gate.slot disk.old disk.new
+            (state_region_word (Mark (state_map self.old).mark.index (state_map self.old).mark.term))) }
+        ensures slot { self.new.journal.gate.slot ≡ self.old.journal.gate.slot }
+    {
         let stored = self.journal.held().map.mark();
         let mark = self.applied;
         if stored.index == mark.index && stored.term == mark.term {
@@ -322,12 +376,32 @@ impl<D: Disk> StateMachine<D> for FileStateMachine {
     }
 
     /// Adds one region of the mark to the journal, where it is not the stored one.
-    fn close(mut self, disk: &mut D) -> Result<(), Error> {
+    fn close(mut self, disk: &mut D) -> Result<(), Error>
+        requires stands { StoreStands D.Disk (state_shown self) disk.old }
+        ensures closes { Closes D.Disk (state_shown self) disk.old disk.new state_family map_held (mark_change (state_shown self).value (state_map self).mark) result }
+        ensures nothing { (state_shown self).value.mark ≡ (state_map self).mark → (disk.new ≡ disk.old) × IsOk result }
+        ensures region { OnOk result (((state_shown self).value.mark ≡ (state_map self).mark → ⊥) → Adds D.Disk self.journal.gate.slot disk.old disk.new
+            (state_region_word (Mark (state_map self).mark.index (state_map self).mark.term))) }
+    {
         self.save_hard_state(disk)
     }
 
     /// Adds one region of the cleanup to the journal, where a key has expired, or writes the map anew behind it.
-    fn lease_background_cleanup(&mut self, disk: &mut D, now: u64) -> Result<Rows<Blob>, Error> {
+    fn lease_background_cleanup(&mut self, disk: &mut D, now: u64) -> Result<Rows<Blob>, Error>
+        requires stands { StoreStands D.Disk (state_shown self.old) disk.old }
+        ensures writes { Writes D.Disk (state_shown self.old) (state_shown self.new) disk.old disk.new state_family map_held
+            (cleanup_change (state_settings self.old).leased (max now 1) (state_shown self.old).value) result }
+        ensures cleaned { OnOk result (state_map self.new ≡ cleaned_where (state_settings self.old).leased (max now 1) (state_map self.old)) }
+        ensures same { IfErr result (λ e. (state_shown self.new).ready → state_map self.new ≡ state_map self.old) }
+        ensures kept { IfErr result (λ e. (state_map self.new ≡ state_map self.old) ⊎ (state_map self.new ≡ cleaned_where (state_settings self.old).leased (max now 1) (state_map self.old))) }
+        ensures keys { IfOk result (λ keys. keys ≡ removed_where (state_settings self.old).leased (max now 1) (state_map self.old)) }
+        ensures sorted { IfOk result (λ keys. IsStrictlySortedBy by_bytes keys) }
+        ensures nothing { ((state_settings self.old).leased && has_due (max now 1) (state_map self.old).expiries) ≡ false → (self.new ≡ self.old) × (disk.new ≡ disk.old) × IsOk result }
+        ensures short { OnOk result (((state_settings self.old).leased && has_due (max now 1) (state_map self.old).expiries) ≡ true → HasShortTail self.new) }
+        ensures settings { state_settings self.new ≡ state_settings self.old }
+        ensures region { OnOk result (((state_settings self.old).leased && has_due (max now 1) (state_map self.old).expiries) ≡ true
+            → AddsOrRenews D.Disk self.old.journal self.new.journal disk.old disk.new 1 (state_region_word (Records (Cleanup (max now 1) ∷ []))) (state_shown self.new).value) }
+    {
         let moment = Positive::of(now.max(1));
         if !self.is_due(moment.get()) {
             return Ok(Rows::of(Vec::new(self.alloc)));
@@ -341,12 +415,30 @@ impl<D: Disk> StateMachine<D> for FileStateMachine {
         self.journal.is_failed()
     }
 
-    fn flush(&mut self, disk: &mut D) -> Result<(), Error> {
+    fn flush(&mut self, disk: &mut D) -> Result<(), Error>
+        requires stands { StoreStands D.Disk (state_shown self.old) disk.old }
+        ensures writes { Writes D.Disk (state_shown self.old) (state_shown self.new) disk.old disk.new state_family map_held (renew_change (state_shown self.old).value) result }
+        ensures map { state_map self.new ≡ state_map self.old }
+        ensures value { (state_shown self.new).value ≡ (state_shown self.old).value }
+        ensures short { OnOk result (HasShortTail self.new) }
+        ensures failed { IfErr result (λ e. (state_shown self.new).ready → ⊥) }
+        ensures settings { state_settings self.new ≡ state_settings self.old }
+        ensures checkpoint { OnOk result (HoldsCheckpoint D.Disk self.new.journal.gate.slot disk.old disk.new (state_shown self.old).value) }
+    {
         self.checkpoint(disk)
     }
 
     /// Writes the journal anew as one region, which begins with no entry.
-    fn reset(&mut self, disk: &mut D) -> Result<(), Error> {
+    fn reset(&mut self, disk: &mut D) -> Result<(), Error>
+        requires stands { StoreStands D.Disk (state_shown self.old) disk.old }
+        ensures writes { Writes D.Disk (state_shown self.old) (state_shown self.new) disk.old disk.new state_family map_held reset_change result }
+        ensures map { OnOk result (state_map self.new ≡ empty_map) }
+        ensures same { IfErr result (λ e. state_map self.new ≡ state_map self.old) }
+        ensures short { OnOk result (HasShortTail self.new) }
+        ensures settings { OnOk result (state_settings self.new ≡ record (state_settings self.old) { metadata = None }) }
+        ensures settings_kept { IfErr result (λ e. state_settings self.new ≡ state_settings self.old) }
+        ensures checkpoint { OnOk result (HoldsCheckpoint D.Disk self.new.journal.gate.slot disk.old disk.new empty_map) }
+    {
         let region = StateRegion::Begin { index: 0, term: 0 };
         match self.journal.rewrite(disk, region, None) {
             Ok(()) => {

@@ -1,14 +1,9 @@
 //! What a state machine is.
 ghost use Rattle.std.specs.Prelude.{◌≡◌, ◌==◌, ◌≤◌, ◌+◌, ◌↔◌, ◌⊎◌, ◌&&◌, ℕ, true, false, List, [], ◌∷◌, max, length, Option, Some, None, IfSome, IsOk, OnOk, IfOk, IfErr, option_map, Err};
 ghost use Rattle.den_disk.specs.declared.place.Family.TheVariants.{State as state_family};
-ghost use Rattle.den_disk.specs.declared.place.Place.{Place};
 ghost use Rattle.den_model.specs.Entries.{LogEntry};
 ghost use Rattle.den_model.specs.MapState.{MapState, empty_map, map_applied_all, results_of, part_of};
 ghost use Rattle.den_model.specs.Sizes.{entries_size, store_rise};
-ghost use Rattle.den_model.specs.declared.journal.JournalRecord.TheVariants.{Cleanup};
-ghost use Rattle.den_model.specs.declared.region.StateRegion.TheVariants.{Mark, Records};
-ghost use Rattle.den_model.specs.Spelling.{state_region_word};
-ghost use Rattle.den_map.specs.Journal.{all_recorded};
 ghost use Rattle.den_model.specs.Apply.{value_at};
 ghost use Rattle.std.specs.List.Sorted.{IsStrictlySortedBy};
 ghost use Rattle.den_codec.specs.declared.error.Error.TheVariants.{OutOfMemory};
@@ -25,7 +20,7 @@ ghost use Rattle.den_state.specs.Changes.{chunk_change, cleanup_change, mark_cha
 ghost use Rattle.den_state.specs.Checkpoint.{IsCheckpointSize, renew_change};
 ghost use Rattle.den_state.specs.Chunk.{refusal_of_chunk};
 ghost use Rattle.den_state.specs.Cleanup.{cleaned_where, removed_where};
-ghost use Rattle.den_state.specs.Machine.{Adds, AddsOrRenews, Closes, HoldsCheckpoint, Settings, StaysAs};
+ghost use Rattle.den_state.specs.Machine.{Closes, Settings, StaysAs};
 
 use crate::SnapshotMetadata;
 use den_codec::{ApplyResult, Blob, Entry, Error, LogId, Rows, ScanResult};
@@ -47,17 +42,14 @@ pub trait StateMachine<D: Disk>: Drop {
     /// snapshot.
     ghost settings: { Self → Settings };
 
-    /// The slot that it uses.
-    ghost slot: { Self → Place };
-
     /// Its files ask for no checkpoint: few records follow the last checkpoint.
     ghost short: { Self → Type 0 };
 
     /// Applies entries in order, each swap seeing the writes before it, and answers whether each succeeded. A chunk out
     /// of order, or with a time to live where no lease is configured, is refused with nothing changed; a fault of the
     /// disk or a full one ends its use; want of memory leaves all as it was, or ends its use. A chunk without entries
-    /// changes nothing. A crash inside leaves the old map with the old stored mark, or the new map. Where many records
-    /// follow the last checkpoint, one is written behind the chunk.
+    /// changes nothing. A crash inside leaves the old map with the old stored mark, or the new map. Its files ask for no
+    /// checkpoint then.
     fn apply_chunk(&mut self, disk: &mut D, chunk: &[Entry]) -> Result<Rows<ApplyResult>, Error>
         requires stands { StoreStands D.Disk (shown self.old) disk.old }
         ensures turned_away { IfSome (refusal_of_chunk (settings self.old).leased (map self.old).mark.index chunk.now)
@@ -71,8 +63,6 @@ pub trait StateMachine<D: Disk>: Drop {
         ensures kept { IfErr result (λ e. IsOfDisk e → (map self.new ≡ map self.old) ⊎ (map self.new ≡ map_applied_all (map self.old) chunk.now)) }
         ensures nothing { chunk.now ≡ [] → (self.new ≡ self.old) × (disk.new ≡ disk.old) × IsOk result }
         ensures short { OnOk result (1 ≤ length chunk.now → short self.new) }
-        ensures region { OnOk result (1 ≤ length chunk.now → AddsOrRenews D.Disk (slot self.old) (slot self.new) disk.old disk.new
-            (state_region_word (Records (all_recorded (shown self.old).value chunk.now))) (shown self.new).value) }
         ensures settings { settings self.new ≡ settings self.old };
 
     /// Moves the applied mark, in memory alone.
@@ -90,8 +80,6 @@ pub trait StateMachine<D: Disk>: Drop {
         ensures writes { Writes D.Disk (shown self.old) (shown self.new) disk.old disk.new state_family holds (mark_change (shown self.old).value last_applied) result }
         ensures map { OnOk result (map self.new ≡ record (map self.old) { mark = last_applied }) }
         ensures same { IfErr result (λ e. map self.new ≡ map self.old) }
-        ensures region { OnOk result (Adds D.Disk (slot self.old) disk.old disk.new (state_region_word (Mark last_applied.index last_applied.term))) }
-        ensures slot { slot self.new ≡ slot self.old }
         ensures settings { settings self.new ≡ settings self.old }
         ensures short { short self.old → short self.new };
 
@@ -101,9 +89,6 @@ pub trait StateMachine<D: Disk>: Drop {
         ensures writes { Writes D.Disk (shown self.old) (shown self.new) disk.old disk.new state_family holds (mark_change (shown self.old).value (map self.old).mark) result }
         ensures map { map self.new ≡ map self.old }
         ensures nothing { (shown self.old).value.mark ≡ (map self.old).mark → (self.new ≡ self.old) × (disk.new ≡ disk.old) × IsOk result }
-        ensures region { OnOk result (((shown self.old).value.mark ≡ (map self.old).mark → ⊥) → Adds D.Disk (slot self.old) disk.old disk.new
-            (state_region_word (Mark (map self.old).mark.index (map self.old).mark.term))) }
-        ensures slot { slot self.new ≡ slot self.old }
         ensures settings { settings self.new ≡ settings self.old }
         ensures short { short self.old → short self.new };
 
@@ -111,13 +96,11 @@ pub trait StateMachine<D: Disk>: Drop {
     fn close(self, disk: &mut D) -> Result<(), Error>
         requires stands { StoreStands D.Disk (shown self) disk.old }
         ensures closes { Closes D.Disk (shown self) disk.old disk.new state_family holds (mark_change (shown self).value (map self).mark) result }
-        ensures nothing { (shown self).value.mark ≡ (map self).mark → (disk.new ≡ disk.old) × IsOk result }
-        ensures region { OnOk result (((shown self).value.mark ≡ (map self).mark → ⊥) → Adds D.Disk (slot self) disk.old disk.new
-            (state_region_word (Mark (map self).mark.index (map self).mark.term))) };
+        ensures nothing { (shown self).value.mark ≡ (map self).mark → (disk.new ≡ disk.old) × IsOk result };
 
     /// Removes each key whose expiry is at most the moment, which counts as 1 where it is 0, with its expiry. Answers
-    /// the removed keys, sorted. Without a lease, or where none has expired, it writes nothing. Where many records follow
-    /// the last checkpoint, one is written behind the cleanup.
+    /// the removed keys, sorted. Without a lease, or where none has expired, it writes nothing. Once it has written, its
+    /// files ask for no checkpoint.
     fn lease_background_cleanup(&mut self, disk: &mut D, now: u64) -> Result<Rows<Blob>, Error>
         requires stands { StoreStands D.Disk (shown self.old) disk.old }
         ensures writes { Writes D.Disk (shown self.old) (shown self.new) disk.old disk.new state_family holds
@@ -129,8 +112,6 @@ pub trait StateMachine<D: Disk>: Drop {
         ensures sorted { IfOk result (λ keys. IsStrictlySortedBy by_bytes keys) }
         ensures nothing { ((settings self.old).leased && has_due (max now 1) (map self.old).expiries) ≡ false → (self.new ≡ self.old) × (disk.new ≡ disk.old) × IsOk result }
         ensures short { OnOk result (((settings self.old).leased && has_due (max now 1) (map self.old).expiries) ≡ true → short self.new) }
-        ensures region { OnOk result (((settings self.old).leased && has_due (max now 1) (map self.old).expiries) ≡ true
-            → AddsOrRenews D.Disk (slot self.old) (slot self.new) disk.old disk.new (state_region_word (Records (Cleanup (max now 1) ∷ []))) (shown self.new).value) }
         ensures settings { settings self.new ≡ settings self.old };
 
     /// Writes its files anew: the map with the stored mark, without a record. The map stays. A crash inside leaves it, and a
@@ -141,7 +122,6 @@ pub trait StateMachine<D: Disk>: Drop {
         ensures map { map self.new ≡ map self.old }
         ensures value { (shown self.new).value ≡ (shown self.old).value }
         ensures short { OnOk result (short self.new) }
-        ensures checkpoint { OnOk result (HoldsCheckpoint D.Disk (slot self.new) disk.old disk.new (shown self.old).value) }
         ensures failed { IfErr result (λ e. (shown self.new).ready → ⊥) }
         ensures settings { settings self.new ≡ settings self.old };
 
@@ -154,7 +134,6 @@ pub trait StateMachine<D: Disk>: Drop {
         ensures map { OnOk result (map self.new ≡ empty_map) }
         ensures same { IfErr result (λ e. map self.new ≡ map self.old) }
         ensures short { OnOk result (short self.new) }
-        ensures checkpoint { OnOk result (HoldsCheckpoint D.Disk (slot self.new) disk.old disk.new empty_map) }
         ensures settings { OnOk result (settings self.new ≡ record (settings self.old) { metadata = None }) }
         ensures settings_kept { IfErr result (λ e. settings self.new ≡ settings self.old) };
 

@@ -1,4 +1,5 @@
-use Rattle.std.proofs.Common.{◌≡◌, ◌≤◌, ◌+◌, ◌*◌, List, [], ◌∷◌, ◌++◌, length, Some, None, Ok, Err, refl, sym, ap, subst, ◌∙◌, arith}
+use Rattle.std.specs.Prelude.{min}
+use Rattle.std.proofs.Common.{◌≡◌, ◌≤◌, ◌+◌, ◌*◌, ◌-◌, ◌^◌, ℕ, List, [], ◌∷◌, ◌++◌, length, Some, None, Ok, Err, refl, sym, ap, subst, ◌∙◌, arith}
 use Rattle.den_disk.specs.declared.place.Family.TheVariants.{State}
 use Rattle.den_model.specs.declared.journal.JournalRecord.{JournalRecord}
 use Rattle.den_model.specs.declared.region.StateRegion.TheVariants.{Records}
@@ -19,6 +20,7 @@ use Rattle.den_state.specs.FileState.{map_held, state_lies, stored_of}
 use Rattle.den_state.specs.Folds.{held_map}
 use Rattle.den_state.specs.Stored.{Stored, map_by, nothing_stored, stored_from}
 use Rattle.den_state.proofs.Marks.{applied_at, lawful_by, order_lower, records_after, results_at}
+use Rattle.den_state.proofs.Tails.{recorded_long}
 use Rattle.den_state.proofs.Weighing.{light_chunk}
 use Rattle.den_state.proofs.file_machine.FileStateMachine.commit.Goals as goal
 
@@ -98,3 +100,11 @@ returns-in-Ok-clause-region g c = λ tells.
     let all : c.of-records.result ≡ all_recorded s.journal.held.map c.args.chunk.now =
     c.of-records.ensures ∙ c.in_ok-journaled.ensures.records ∙ ap (λ (h : StoredMap). all_recorded h.map c.args.chunk.now) c.held.ensures in
     sym (ap (λ (p : Place). payloads_of ((g.D.Disk.content c.change.new.disk).reading p)) c.change.ensures.slot) ∙ c.in-Ok.ensures.appended tells ∙ ap (λ (rs : List JournalRecord). list ++ state_region_word (Records rs) ∷ []) all
+
+pub returns-in-Ok-clause-tail : goal.returns-in-Ok-clause-tail
+returns-in-Ok-clause-tail g c =
+    let s = c.args.self.now in
+    let all : c.of-records.result ≡ all_recorded s.journal.held.map c.args.chunk.now =
+    c.of-records.ensures ∙ c.in_ok-journaled.ensures.records ∙ ap (λ (h : StoredMap). all_recorded h.map c.args.chunk.now) c.held.ensures in
+    let long : length c.of-records.result ≡ length c.args.chunk.now = ap (λ (rs : List JournalRecord). length rs) all ∙ recorded_long s.journal.held.map c.args.chunk.now in
+    ap (λ (v : Stored). v.tail) c.in-Ok.ensures.writes.done.value ∙ ap (λ (n : ℕ). min (s.journal.held.tail + n) (2 ^ 64 - 1)) long

@@ -12,6 +12,7 @@ use Rattle.den_gate.specs.Gate.{payloads}
 use Rattle.den_gate.specs.Slot.{payloads_of}
 use Rattle.den_lease.specs.Due.{has_due}
 use Rattle.den_map.specs.Cleanup.{cleaned_map}
+use Rattle.den_map.specs.Tail.{tail_after}
 use Rattle.den_journal.specs.Shown.{held_in}
 use Rattle.den_journal.proofs.Moving.{writes_refused}
 use Rattle.den_journal.proofs.Seen.{writes_part, refused_same}
@@ -114,3 +115,7 @@ returns-in-Ok-clause-region g c = λ tells.
     let list = payloads s.journal.gate (g.D.Disk.content c.args.disk.now).reading in
     let same : c.args.moment ≡ c.args.moment = refl in
     sym (ap (λ (p : Place). payloads_of ((g.D.Disk.content c.change.new.disk).reading p)) c.change.ensures.slot) ∙ c.in-Ok.ensures.appended tells ∙ ap (λ (r : StateRegion). list ++ state_region_word r ∷ []) (c.in_ok-due.ensures.region ∙ ap (λ (n : ℕ). Records (Cleanup n ∷ [])) same)
+
+pub returns-in-Ok-clause-tail : goal.returns-in-Ok-clause-tail
+returns-in-Ok-clause-tail g c =
+    ap (λ (v : Stored). v.tail) c.in-Ok.ensures.writes.done.value ∙ ap (λ (r : StateRegion). tail_after c.args.self.now.journal.held.tail r) c.in_ok-due.ensures.region
