@@ -7,4 +7,5 @@ pub mod Folds
 pub mod Light
 pub mod Machine
 pub mod Regions
+pub mod Snapshots
 pub mod Stored

@@ -4,7 +4,7 @@ ghost use Rattle.den_model.specs.MapState.{MapState};
 ghost use Rattle.den_journal.specs.Drafts.{IsDrafting};
 ghost use Rattle.den_journal.specs.Journals.{journal_shown};
 ghost use Rattle.den_journal.specs.Writes.{StoreStands};
-ghost use Rattle.den_state.specs.Checkpoint.{IsWriting, IsWritten, Next, Steps, Renews, Replaces};
+ghost use Rattle.den_state.specs.Checkpoint.{IsWriting, IsWritten, Next, Steps, Renews};
 ghost use Rattle.den_state.specs.Stored.{Stored};
 
 use crate::stored_map::StoredMap;
@@ -107,7 +107,7 @@ fn push_map<D: Disk>(
 }
 
 // Puts a checkpoint of the map into a draft that has nothing yet, and makes it the family's regions.
-fn commit_map<D: Disk>(
+pub(crate) fn commit_map<D: Disk>(
     alloc: Global,
     journal: &mut Journal<StoredMap>,
     disk: &mut D,
@@ -138,25 +138,6 @@ pub(crate) fn write_anew<D: Disk>(
 {
     match journal.draft_begin(disk) {
         Ok(()) => commit_map(alloc, journal, disk),
-        Err(error) => Err(error),
-    }
-}
-
-// Puts another map in the map's place, written anew in the slot that is not in use, which is the one in use then.
-pub(crate) fn replace<D: Disk>(
-    alloc: Global,
-    journal: &mut Journal<StoredMap>,
-    disk: &mut D,
-    held: StoredMap,
-) -> Result<(), Error>
-    requires stands { StoreStands D.Disk (journal_shown ⟦<StoredMap as Folded>⟧ journal.old) disk.old }
-    ensures replaces { Replaces ⟦<StoredMap as Folded>⟧ D.Disk held journal.old journal.new disk.old disk.new result }
-{
-    match journal.draft_begin(disk) {
-        Ok(()) => {
-            journal.draft_turn_to(held);
-            commit_map(alloc, journal, disk)
-        }
         Err(error) => Err(error),
     }
 }

@@ -4,10 +4,11 @@ ghost use Rattle.std.specs.Prelude.{◌≡◌, ◌≤◌, ◌<◌, ◌⊎◌};
 use crate::StateMachine;
 use crate::checkpoint::write_anew;
 use crate::cleanup::prepare;
+use crate::snapshots::{installed, word_of};
 use crate::stored_map::StoredMap;
 use den_codec::{ApplyResult, Blob, Entry, Error, LogId, Positive, Rows, ScanResult, StateRegion};
-use den_disk::Disk;
-use den_journal::Journal;
+use den_disk::{Disk, Family};
+use den_journal::{Journal, write_one};
 use den_lease::DefaultLease;
 use den_map::{asks_lease, out_of_order};
 use std::alloc::Global;
@@ -15,14 +16,17 @@ use std::alloc::Global;
 // So many records behind the last beginning ask for a checkpoint.
 const LONG_TAIL: u64 = 1000;
 
+// No checksum of a snapshot is made.
+const NO_CHECKSUM: [u8; 32] = [0; 32];
+
 /// A map in memory, whose journal is the gate file of the State family.
 #[derive(Drop)]
 pub struct FileStateMachine {
-    alloc: Global,
+    pub(crate) alloc: Global,
     /// The map with the mark that the files hold.
     pub(crate) journal: Journal<StoredMap>,
     /// The applied mark, which may not be stored.
-    applied: LogId,
+    pub(crate) applied: LogId,
     pub(crate) leased: bool,
     running: bool,
     metadata: Option<SnapshotMetadata>,
@@ -448,6 +452,49 @@ impl<D: Disk> StateMachine<D> for FileStateMachine {
             }
             Err(error) => Err(error),
         }
+    }
+
+    /// Writes the snapshot's word as the one region of the Snapshot family's files.
+    fn generate_snapshot_data(
+        &mut self,
+        disk: &mut D,
+        last_included: LogId,
+    ) -> Result<Blob, Error> {
+        let checksum = Blob::of(self.alloc, &NO_CHECKSUM)?;
+        let word = word_of(self.alloc, &self.journal.held().map, last_included)?;
+        match write_one(disk, Family::Snapshot, word) {
+            Ok(()) => {
+                self.metadata = Some(SnapshotMetadata {
+                    last_included: Some(last_included),
+                    checksum: NO_CHECKSUM,
+                });
+                Ok(checksum)
+            }
+            Err(error) => {
+                self.journal.give_up();
+                Err(error)
+            }
+        }
+    }
+
+    /// Writes the journal anew as a checkpoint of the snapshot's map after its cleanup, so that a crash leaves the old map or
+    /// that one.
+    fn apply_snapshot_from_file(
+        &mut self,
+        disk: &mut D,
+        metadata: &SnapshotMetadata,
+        now: u64,
+    ) -> Result<(), Error> {
+        let snapshot = self.find_snapshot(disk)?;
+        let moment = Positive::of(now.max(1));
+        let stored = metadata
+            .last_included
+            .unwrap_or(self.journal.held().map.mark());
+        let applied = metadata.last_included.unwrap_or(self.applied);
+        let held = installed(self.alloc, &snapshot, stored, self.leased, moment)?;
+        self.put(disk, held, applied)?;
+        self.metadata = Some(*metadata);
+        Ok(())
     }
 
     fn has_lease(&self) -> bool {

@@ -30,6 +30,7 @@ mod checkpoint;
 mod cleanup;
 mod file_machine;
 mod machine;
+mod snapshots;
 mod stored_map;
 
 pub use file_machine::{FileStateMachine, SnapshotMetadata};

@@ -1,5 +1,5 @@
 //! What a state machine is.
-ghost use Rattle.std.specs.Prelude.{◌≡◌, ◌==◌, ◌≤◌, ◌+◌, ◌↔◌, ◌⊎◌, ◌&&◌, ℕ, true, false, List, [], ◌∷◌, max, length, Option, Some, None, IfSome, IsOk, OnOk, IfOk, IfErr, option_map, Err};
+ghost use Rattle.std.specs.Prelude.{◌≡◌, ◌==◌, ◌≤◌, ◌+◌, ◌↔◌, ◌⊎◌, ◌&&◌, ℕ, true, false, List, [], ◌∷◌, max, length, Option, Some, None, IfSome, IsOk, OnOk, IfOk, IfErr, option_map, replicate, Err};
 ghost use Rattle.den_disk.specs.declared.place.Family.TheVariants.{State as state_family};
 ghost use Rattle.den_model.specs.Entries.{LogEntry};
 ghost use Rattle.den_model.specs.MapState.{MapState, empty_map, map_applied_all, results_of, part_of};
@@ -12,6 +12,7 @@ ghost use Rattle.den_model.specs.Table.{by_bytes};
 ghost use Rattle.den_lease.specs.Due.{has_due};
 ghost use Rattle.den_map.specs.Leases.{has_expiry};
 ghost use Rattle.den_map.specs.Scan.{keys_in};
+ghost use Rattle.den_snapshot.specs.Snapshots.{taken_of};
 ghost use Rattle.den_journal.specs.Causes.{IsOfDisk};
 ghost use Rattle.den_journal.specs.Lies.{Lies};
 ghost use Rattle.den_journal.specs.Shown.{Held, Shown};
@@ -21,6 +22,7 @@ ghost use Rattle.den_state.specs.Checkpoint.{IsCheckpointSize, renew_change};
 ghost use Rattle.den_state.specs.Chunk.{refusal_of_chunk};
 ghost use Rattle.den_state.specs.Cleanup.{cleaned_where, removed_where};
 ghost use Rattle.den_state.specs.Machine.{Closes, Settings, StaysAs};
+ghost use Rattle.den_state.specs.Snapshots.{Generates, Installs};
 
 use crate::SnapshotMetadata;
 use den_codec::{ApplyResult, Blob, Entry, Error, LogId, Rows, ScanResult};
@@ -136,6 +138,40 @@ pub trait StateMachine<D: Disk>: Drop {
         ensures short { OnOk result (short self.new) }
         ensures settings { OnOk result (settings self.new ≡ record (settings self.old) { metadata = None }) }
         ensures settings_kept { IfErr result (λ e. settings self.new ≡ settings self.old) };
+
+    /// Stores a snapshot: pairs and expiries under this mark, as the one word of the Snapshot family's files. Answers its
+    /// checksum, 32 zeros: none is made. What was last said of a snapshot is this mark and checksum then. The map and its
+    /// own files stay. A crash inside leaves the snapshot that stood there, or this one; files of the Snapshot family that
+    /// cannot be read are emptied first. Want of memory leaves all as it was, and a refusal of the disk ends its use.
+    fn generate_snapshot_data(&mut self, disk: &mut D, last_included: LogId) -> Result<Blob, Error>
+        requires stands { StoreStands D.Disk (shown self.old) disk.old }
+        ensures generates { Generates D.Disk (shown self.old) (shown self.new) disk.old disk.new (taken_of last_included (map self.old)) result }
+        ensures map { map self.new ≡ map self.old }
+        ensures checksum { IfOk result (λ checksum. checksum ≡ replicate 32 0) }
+        ensures settings { OnOk result (settings self.new ≡ record (settings self.old) { metadata = Some (record { last_included = Some last_included; checksum = replicate 32 0 }) }) }
+        ensures settings_kept { IfErr result (λ e. settings self.new ≡ settings self.old) }
+        ensures short { short self.old → short self.new };
+
+    /// Puts the snapshot in the Snapshot family's files in the map's place: pairs and expiries are the snapshot's then, both
+    /// marks are the metadata's last entry where it names one, and stay where it does not, and the metadata is what was last
+    /// said of a snapshot. Then each key goes whose expiry is at most the moment, which counts as 1 where it is 0, where a
+    /// lease is configured. `DataCorruption` comes exactly where the Snapshot family's files are not one region that is a
+    /// snapshot's word, and names the slot in use and offset 0; `FeatureNotEnabled` comes exactly where the snapshot has a
+    /// key that expires and no lease is configured: nothing changes then. A crash inside leaves the old map, the new one, or
+    /// the snapshot's before its cleanup. Want of memory leaves all as it was, or ends its use, and a refusal of the disk
+    /// ends it.
+    fn apply_snapshot_from_file(
+        &mut self,
+        disk: &mut D,
+        metadata: &SnapshotMetadata,
+        now: u64,
+    ) -> Result<(), Error>
+        requires stands { StoreStands D.Disk (shown self.old) disk.old }
+        ensures installs { Installs D.Disk (settings self.old).leased (max now 1) metadata.now.last_included (shown self.old) (shown self.new)
+            (map self.old) (map self.new) disk.old disk.new holds result }
+        ensures settings { OnOk result (settings self.new ≡ record (settings self.old) { metadata = Some metadata.now }) }
+        ensures settings_kept { IfErr result (λ e. settings self.new ≡ settings self.old) }
+        ensures short { OnOk result (short self.new) };
 
     /// Whether a refusal left it of no more use. It is opened anew then.
     fn is_failed(&self) -> bool

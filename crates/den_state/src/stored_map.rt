@@ -10,7 +10,7 @@ use std::alloc::{AllocError, Global};
 
 #[derive(Drop)]
 pub(crate) struct StoredMap {
-    alloc: Global,
+    pub(crate) alloc: Global,
     pub(crate) map: Map,
     // How many records follow the last Begin region, at most 2^64 - 1.
     pub(crate) tail: u64,
