@@ -1,5 +1,5 @@
 -- What the Snapshot family's files hold once a snapshot's word was written there, and what the call leaves.
-use Rattle.std.proofs.Common.{◌≡◌, ◌≤◌, ◌+◌, ◌∙◌, inl, inr, ⊎_elim, ℕ, IsTrue, [], ◌∷◌, length, Some, Result, Ok, Err, IfErr, refl, sym, ap, subst, arith}
+use Rattle.std.proofs.Common.{◌≡◌, ◌⊎◌, ◌≤◌, ◌+◌, ◌∙◌, inl, inr, ⊎_elim, ℕ, IsTrue, [], ◌∷◌, length, Some, Result, Ok, Err, IfErr, refl, sym, ap, subst, arith}
 use Rattle.std.specs.Prelude.{max}
 use Rattle.std.specs.Result.{IsErrAnd}
 use Rattle.den_disk.specs.declared.disk.Disk.{Ghosts}
@@ -112,7 +112,7 @@ module _ {D : Type 0} (disk : Ghosts D) (was now : Shown MapState) (made : Taken
       failed = tt;
     }
 
-    pub not_generated : {S T : Type 0} (e : Error) → (now.ready → ⊥) → length (snapshot_word made) ≤ was.weight → WritesOne {T = S} disk Snapshot (snapshot_word made) old new (Err e) → Generates {T = T} disk was now old new made (Err e)
+    pub not_generated : {S T : Type 0} (e : Error) → (now.ready → ⊥) → length (snapshot_word made) ≤ was.weight → WritesOne disk Snapshot {T = S} (snapshot_word made) old new (Err e) → Generates disk was now old new {T = T} made (Err e)
     not_generated e failed within w =
         let size = length (snapshot_word made) in
         let limit = (disk.kind old).limit in

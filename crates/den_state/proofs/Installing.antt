@@ -1,11 +1,11 @@
 -- What reading the files' snapshot leaves of a state machine, and what putting it in the map's place does.
-use Rattle.std.proofs.Common.{◌≡◌, ◌≤◌, ◌+◌, ◌∙◌, inl, inr, ⊎_elim, ℕ, Bool, true, false, IsTrue, List, [], ◌∷◌, length, Option, Some, None, Result, Ok, Err, IfErr, refl, sym, ap, subst, arith}
+use Rattle.std.proofs.Common.{◌≡◌, ◌⊎◌, ◌≤◌, ◌+◌, ◌∙◌, inl, inr, ⊎_elim, ℕ, Bool, true, false, IsTrue, List, [], ◌∷◌, length, Option, Some, None, Result, Ok, Err, IfErr, refl, sym, ap, subst, arith}
 use Rattle.std.specs.Prelude.{max, unwrap_or}
 use Rattle.den_disk.specs.declared.disk.Disk.{Ghosts}
 use Rattle.den_disk.specs.declared.place.Family.TheVariants.{State, Snapshot}
 use Rattle.den_disk.specs.Place.{place_number}
-use Rattle.den_disk.specs.Files.{Files, Kind}
-use Rattle.den_disk.specs.Families.{SparesAll}
+use Rattle.den_disk.specs.Files.{Files, IsImage, Kind}
+use Rattle.den_disk.specs.Families.{NoNewImages, SparesAll}
 use Rattle.den_model.specs.declared.log_id.LogId.{LogId}
 use Rattle.den_model.specs.declared.region.StoredPair.{StoredPair}
 use Rattle.den_model.specs.Image.{slot_of}
@@ -15,14 +15,29 @@ use Rattle.den_codec.specs.declared.error.Error.{Error}
 use Rattle.den_codec.specs.declared.error.Error.TheVariants as error
 use Rattle.den_map.specs.Cleanup.{cleaned_map}
 use Rattle.den_snapshot.specs.Snapshots.{Taken, map_of}
+use Rattle.den_map.specs.Sizes.{pairs_size}
+use Rattle.den_snapshot.specs.Words.{snapshot_word}
+use Rattle.den_snapshot.proofs.Giving.{map_light, map_marked, snapshot_long}
+use Rattle.den_codec.specs.Full.{IsHeavy}
+use Rattle.den_model.specs.Sizes.{store_rise}
+use Rattle.den_disk.specs.Goes.{Rose}
 use Rattle.den_journal.specs.Folding.{IsUnread}
-use Rattle.den_journal.specs.OneWord.{one_in}
-use Rattle.den_journal.specs.Shown.{IsOneOf, Shown}
+use Rattle.den_journal.specs.Causes.{IsFullFor, IsRefusal}
+use Rattle.den_journal.specs.Journals.{journal_held}
+use Rattle.den_journal.specs.Shown.{IsOneOf, Shown, rewrite_size}
 use Rattle.den_journal.specs.Writes.{DiskTells, Faulted, GoesOn, Moves, StoreStands}
-use Rattle.den_journal.proofs.Moving.{first_of}
+use Rattle.den_journal.proofs.Moving.{first_of, moves_joined, moves_not}
+use Rattle.den_journal.proofs.Seen.{more_full, more_heavy}
+use Rattle.den_state.specs.contracts.stored_map.StoredMapFolded.TheImpl.{ghosts}
 use Rattle.den_state.specs.declared.file_machine.FileStateMachine.{FileStateMachine}
-use Rattle.den_state.specs.FileState.{map_held, state_lies, state_map, state_shown}
-use Rattle.den_state.specs.Snapshots.{Installs, IsLeft, IsUninstalled, installed, installed_values, snapshot_of}
+use Rattle.den_state.specs.declared.stored_map.StoredMap.{StoredMap}
+use Rattle.den_state.specs.Checkpoint.{IsCheckpointSize, Replaces}
+use Rattle.den_state.specs.Cleanup.{cleaned_where}
+use Rattle.den_state.specs.FileState.{map_held, state_lies, state_map, state_shown, stored_of}
+use Rattle.den_state.specs.Folds.{held_map}
+use Rattle.den_state.specs.Light.{cleaned_pairs}
+use Rattle.den_state.specs.Stored.{Stored}
+use Rattle.den_state.specs.Snapshots.{Installs, IsFound, IsFullOfMap, IsInstalled, IsLeft, IsPut, IsUninstalled, installed, installed_values, is_fault, snapshot_of}
 
 -- ---- the map under another mark
 
@@ -35,14 +50,53 @@ pub installed_at : (leased : Bool) (moment : ℕ) (one other : LogId) (t : Taken
 installed_at false moment one other t = sym (remarked (record { pairs = []; expiries = []; mark = one }) other t.pairs)
 installed_at true moment one other t = ap (cleaned_map moment) (sym (remarked (record { pairs = []; expiries = []; mark = one }) other t.pairs))
 
+installed_mark : (leased : Bool) (moment : ℕ) (mark : LogId) (t : Taken) → (installed leased moment mark t).mark ≡ mark
+installed_mark false moment mark t = map_marked mark t
+installed_mark true moment mark t = map_marked mark t
+
+later_of : (last : Option LogId) (one other : LogId) → one.index ≤ other.index → (unwrap_or last one).index ≤ (unwrap_or last other).index
+later_of None one other le = le
+later_of (Some mark) one other le = omega arith
+
+-- its mark is not above the applied one
+pub installed_below : (leased : Bool) (moment : ℕ) (last : Option LogId) (one other : LogId) (t : Taken) (m : MapState) → m ≡ installed leased moment (unwrap_or last one) t → one.index ≤ other.index → m.mark.index ≤ (unwrap_or last other).index
+installed_below leased moment last one other t m is le =
+    let mark : m.mark.index ≡ (unwrap_or last one).index = ap (λ (x : MapState). x.mark.index) is ∙ ap (λ (p : LogId). p.index) (installed_mark leased moment (unwrap_or last one) t) in
+    omega (arith, mark, later_of last one other le)
+
 -- ---- after a sync
 
 module _ {D : Type 0} (disk : Ghosts D) (s : FileStateMachine) (old new : D) (stands : StoreStands disk (state_shown s) old) (spares : DiskTells disk old → SparesAll (disk.content old) (disk.content new)) where
   pub rests_on : DiskTells disk old → (state_shown s).rests (disk.content new)
   rests_on tells = state_lies.rests_own s (disk.content old) (disk.content new) (all_own State (disk.content old) (disk.content new) (spares tells)) (stands.rests tells)
 
+  -- a crash leaves the map
+  pub left_moves : ((files : Files) → DiskTells disk old → disk.images old (disk.moment old) files → IsImage (disk.content old) files)
+      → (DiskTells disk old → NoNewImages (disk.images old) (disk.images new) (disk.moment old) (disk.moment new)) → DiskTells disk old → Moves disk State map_held (s.journal.held.map ∷ []) old new
+  left_moves image none tells = moves_not disk State map_held s.journal.held.map [] old new (λ told files i. state_lies.rests_hold told s (disk.content old) files stands.ready (stands.rests tells) (image files tells i)) (none tells) (spares tells)
+
   pub left : IsLeft disk (state_shown s) (state_shown s) (state_map s) (state_map s) old new
   left = record { same_value = refl; same_map = refl; same_weight = refl; ready = stands.ready; rests = rests_on }
+
+-- ---- a snapshot that cannot be read
+
+module _ {D : Type 0} (disk : Ghosts D) (leased : Bool) (moment : ℕ) (last : Option LogId) (s now : FileStateMachine) (old new : D) where
+  abbrev pub Corrupt : ℕ → ℕ → Type 0
+  Corrupt place offset = DiskTells disk old → (place ≡ place_number (slot_of Snapshot (disk.content old).reading)) × (offset ≡ 0) × (snapshot_of (disk.content old).reading ≡ None)
+
+  -- there is none, or memory was wanting
+  pub unread : (e : Error) → is_fault e ≡ false → IsUnread (Faulted disk old new) Corrupt e → IsLeft disk (state_shown s) (state_shown now) (state_map s) (state_map now) old new
+      → IsUninstalled disk leased moment last (state_shown s) (state_shown now) (state_map s) (state_map now) old new (Unit {0}) e
+  unread error.StorageIoError is h same = absurd (cc is)
+  unread error.OutOfMemory is h same = inl same
+  unread (error.DiskFull needed limit) is h same = absurd h
+  unread error.LinkFault is h same = absurd h
+  unread (error.DataCorruption place offset) is h same = (same, λ tells. let p = h tells in (p.2, p.0, p.1))
+  unread error.FeatureNotEnabled is h same = absurd h
+  unread error.ProposeFailed is h same = absurd h
+  unread (error.UnorderedChunk index) is h same = absurd h
+  unread (error.Config place) is h same = absurd h
+  unread error.StateMachineError is h same = absurd h
 
 -- ---- what a crash may find
 
@@ -52,6 +106,9 @@ module _ {D : Type 0} (disk : Ghosts D) (leased : Bool) (moment : ℕ) (mark : L
   moves_first o moves = record { own = λ told t files low high i. first_of v (installed_values leased moment mark o) (map_held.of files) (moves.own told t files low high i); others = moves.others; spares = moves.spares }
 
 -- ---- the snapshot's map in the old one's place
+
+at_most : (first second third : ℕ) → first ≤ second → second ≤ third → first ≤ third
+at_most first second third one two = omega arith
 
 more_rose : (first second third : ℕ) → first ≤ second → Rose second third → Rose first third
 more_rose first second third le rose = omega arith
@@ -79,11 +136,11 @@ within leased moment mark t m end size is =
 
 module _ {D : Type 0} (disk : Ghosts D) (s now : FileStateMachine) (old d new : D) (leased : Bool) (moment : ℕ) (last : Option LogId) (t : Taken) (found : IsFound disk leased old t false)
     (goes : GoesOn disk old d) (first : DiskTells disk old → Moves disk State map_held (s.journal.held.map ∷ []) old d)
-    (held : StoredMap) (is : held.map ≡ installed leased moment (unwrap_or last s.journal.held.map.mark) t) (applied : now.applied ≡ unwrap_or last s.applied) where
+    (held : StoredMap) (is : held.map ≡ installed leased moment (unwrap_or last s.journal.held.map.mark) t) where
   on : DiskTells disk old → DiskTells disk d
   on tells = subst (λ (k : Kind). IsTrue k.tells) (sym goes.same) tells
 
-  new_map : MapState
+  abbrev pub new_map : MapState
   new_map = installed leased moment (unwrap_or last s.journal.held.map.mark) t
 
   one_of_two : (o : Option Taken) → o ≡ Some t → (x : Option MapState) → IsOneOf (s.journal.held.map ∷ new_map ∷ []) x
@@ -105,11 +162,80 @@ module _ {D : Type 0} (disk : Ghosts D) (s now : FileStateMachine) (old d new : 
         spares = moves.spares;
       })
 
-  put : now.journal.held.map ≡ held.map → IsPut disk leased moment last (state_shown s) (state_shown now) (state_map s) (state_map now) old new
-  put same = record {
+  put : now.journal.held.map ≡ held.map → now.applied ≡ unwrap_or last s.applied → IsPut disk leased moment last (state_shown s) (state_shown now) (state_map s) (state_map now) old new
+  put same applied = record {
     taken = t;
     found = found;
     value = same ∙ is;
     map =
         (λ i. record ((same ∙ is) i) { mark = applied i }) ∙ installed_at leased moment (unwrap_or last s.journal.held.map.mark) (unwrap_or last s.applied) t;
+  }
+
+  -- ---- how it ends
+
+  failing : {T : Type 0} (e : Error) → Replaces ghosts disk held s.journal now.journal d new {T = T} (Err e) → IsUninstalled disk leased moment last (state_shown s) (state_shown now) (state_map s) (state_map now) old new (Unit {0}) e
+  failing error.OutOfMemory r = inr r.failed
+  failing error.StorageIoError r = (more_rose (disk.faults old) (disk.faults d) (disk.faults new) goes.counts r.cause, r.failed)
+  failing (error.DiskFull needed limit) r =
+      let most = max s.journal.gate.end (rewrite_size (pairs_size held.map.pairs)) in
+      let more = (state_shown s).weight + store_rise (length (snapshot_word t)) in
+      let light : most ≤ more = within leased moment (unwrap_or last s.journal.held.map.mark) t held.map s.journal.gate.end (pairs_size s.journal.held.map.pairs) is in
+      let same : (disk.kind d).limit ≡ (disk.kind old).limit = ap (λ (k : Kind). k.limit) goes.same in (
+        record {
+          taken = t;
+          found = found;
+          passes = r.cause.0;
+          limit_is = r.cause.1 ∙ same;
+          full = more_full (DiskTells disk d) (DiskTells disk old × Unit {0}) State (disk.content new).reading most more (λ n. ⊥) (IsCheckpointSize held.map) (λ n. ⊥) (IsCheckpointSize new_map) (error.DiskFull needed limit)
+              (λ tells. on tells.0) light (λ n h. h) (λ n h. subst (λ (m : MapState). IsCheckpointSize m n) is h) r.full;
+          heavy = subst (λ (n : ℕ). IsHeavy n more (error.DiskFull needed limit)) same (more_heavy (disk.kind d).limit most more (error.DiskFull needed limit) light r.heavy);
+        },
+        r.failed,
+      )
+  failing error.LinkFault r = absurd r.cause
+  failing (error.DataCorruption place offset) r = absurd r.cause
+  failing error.FeatureNotEnabled r = absurd r.cause
+  failing error.ProposeFailed r = absurd r.cause
+  failing (error.UnorderedChunk index) r = absurd r.cause
+  failing (error.Config place) r = absurd r.cause
+  failing error.StateMachineError r = absurd r.cause
+
+  pub installs : {S T : Type 0} (x : S) (y : T) → now.applied ≡ unwrap_or last s.applied → Replaces ghosts disk held s.journal now.journal d new (Ok x)
+      → Installs disk leased moment last (state_shown s) (state_shown now) (state_map s) (state_map now) old new map_held (Ok y)
+  unfolding put
+  installs x y applied r = record {
+    goes_on = goes_then disk old d new goes r.goes_on;
+    moves = moves_both r.goes_on r.moves;
+    done = record {
+      put = put (ap (λ (v : Stored). v.map) r.done.value) applied;
+      weight = at_most _ _ _ r.done.weight (within leased moment (unwrap_or last s.journal.held.map.mark) t held.map s.journal.gate.end (pairs_size s.journal.held.map.pairs) is);
+      ready = r.done.ready;
+      rests = λ tells. r.done.rests (on tells);
+    };
+    refused = tt;
+    kept = tt;
+  }
+
+  pub not_installed : {S T : Type 0} (e : Error) → Replaces ghosts disk held s.journal now.journal d new {T = S} (Err e)
+      → ((now.journal.held ≡ s.journal.held) × (now.applied ≡ s.applied)) ⊎ ((now.journal.held ≡ held) × (now.applied ≡ unwrap_or last s.applied))
+      → Installs disk leased moment last (state_shown s) (state_shown now) (state_map s) (state_map now) old new {T = T} map_held (Err e)
+  not_installed e r kept = record {
+    goes_on = goes_then disk old d new goes r.goes_on;
+    moves = moves_both r.goes_on r.moves;
+    done = tt;
+    refused = failing e r;
+    kept = ⊎_elim (λ k. inl (ap (λ (h : StoredMap). h.map) k.0, λ i. record (k.0 i).map { mark = k.1 i })) (λ k. inr (put (ap (λ (h : StoredMap). h.map) k.0) k.1)) kept;
+  }
+
+-- ---- the exits before
+
+module _ {D : Type 0} (disk : Ghosts D) (leased : Bool) (moment : ℕ) (last : Option LogId) (s now : FileStateMachine) (old new : D) (goes : GoesOn disk old new) (first : DiskTells disk old → Moves disk State map_held (s.journal.held.map ∷ []) old new) where
+  pub not_found : {T : Type 0} (e : Error) → IsUninstalled disk leased moment last (state_shown s) (state_shown now) (state_map s) (state_map now) old new (Unit {0}) e → now.journal.held.map ≡ s.journal.held.map → state_map now ≡ state_map s
+      → Installs disk leased moment last (state_shown s) (state_shown now) (state_map s) (state_map now) old new {T = T} map_held (Err e)
+  not_found e refused value map = record {
+    goes_on = goes;
+    moves = λ tells. moves_first disk leased moment (unwrap_or last s.journal.held.map.mark) s.journal.held.map old new (snapshot_of (disk.content old).reading) (first tells);
+    done = tt;
+    refused = refused;
+    kept = inl (value, map);
   }

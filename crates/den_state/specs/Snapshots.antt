@@ -44,6 +44,19 @@ abbrev pub installed_values : Bool → ℕ → LogId → Option Taken → List M
 installed_values leased moment mark None = []
 installed_values leased moment mark (Some t) = map_of mark t ∷ installed leased moment mark t ∷ []
 
+-- a fault of the disk
+abbrev pub is_fault : Error → Bool
+is_fault StorageIoError = true
+is_fault OutOfMemory = false
+is_fault (DiskFull needed limit) = false
+is_fault LinkFault = false
+is_fault (DataCorruption place offset) = false
+is_fault FeatureNotEnabled = false
+is_fault ProposeFailed = false
+is_fault (UnorderedChunk index) = false
+is_fault (Config place) = false
+is_fault StateMachineError = false
+
 -- why no snapshot is stored: want of memory; a fault of the disk where its count rose; a file that would pass the limit; and,
 -- where the disk does not tell its bytes, files that cannot be read once they were emptied
 abbrev pub IsUnstored : (rose told : Type 0) → ℕ → Error → Type 0

@@ -485,16 +485,23 @@ impl<D: Disk> StateMachine<D> for FileStateMachine {
         metadata: &SnapshotMetadata,
         now: u64,
     ) -> Result<(), Error> {
-        let snapshot = self.find_snapshot(disk)?;
+        let snapshot = match self.find_snapshot(disk) {
+            Ok(snapshot) => snapshot,
+            Err(error) => return Err(error),
+        };
         let moment = Positive::of(now.max(1));
         let stored = metadata
             .last_included
             .unwrap_or(self.journal.held().map.mark());
         let applied = metadata.last_included.unwrap_or(self.applied);
         let held = installed(self.alloc, &snapshot, stored, self.leased, moment)?;
-        self.put(disk, held, applied)?;
-        self.metadata = Some(*metadata);
-        Ok(())
+        match self.put(disk, held, applied) {
+            Ok(()) => {
+                self.metadata = Some(*metadata);
+                Ok(())
+            }
+            Err(error) => Err(error),
+        }
     }
 
     fn has_lease(&self) -> bool {

@@ -7,7 +7,7 @@ ghost use Rattle.den_snapshot.specs.Words.{snapshot_word, FitsSnapshot};
 ghost use Rattle.den_journal.specs.Writes.{DiskTells, GoesOn, Moves, StoreStands};
 ghost use Rattle.den_state.specs.Checkpoint.{Replaces};
 ghost use Rattle.den_state.specs.FileState.{map_held, state_map, state_settings, state_shown};
-ghost use Rattle.den_state.specs.Snapshots.{installed, wants_lease, IsFound, IsUninstalled};
+ghost use Rattle.den_state.specs.Snapshots.{installed, is_fault, wants_lease, IsFound, IsUninstalled};
 
 use crate::FileStateMachine;
 use crate::checkpoint::commit_map;
@@ -59,6 +59,24 @@ fn wants_lease(leased: bool, snapshot: &Snapshot) -> bool
     snapshot.holds_expiry() && !leased
 }
 
+// Whether the disk failed.
+fn is_fault(error: &Error) -> bool
+    ensures { result ≡ is_fault error.now }
+{
+    match error {
+        Error::StorageIoError => true,
+        Error::OutOfMemory
+        | Error::DiskFull { .. }
+        | Error::LinkFault
+        | Error::DataCorruption { .. }
+        | Error::FeatureNotEnabled
+        | Error::ProposeFailed
+        | Error::UnorderedChunk { .. }
+        | Error::Config { .. }
+        | Error::StateMachineError => false,
+    }
+}
+
 impl FileStateMachine {
     // The snapshot that the files hold, where the lease allows it. A fault of the disk ends the machine's use.
     pub(crate) fn find_snapshot<D: Disk>(&mut self, disk: &mut D) -> Result<Snapshot, Error>
@@ -82,8 +100,9 @@ impl FileStateMachine {
                 Ok(snapshot)
             }
             Err(error) => {
-                if matches!(error, Error::StorageIoError) {
+                if is_fault(&error) {
                     self.journal.give_up();
+                    return Err(error);
                 }
                 Err(error)
             }

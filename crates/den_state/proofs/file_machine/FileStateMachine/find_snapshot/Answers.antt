@@ -1,34 +1,43 @@
-use Rattle.std.proofs.Common.{rules, ◌≡◌, ◌≤◌, ◌⊎◌, ℕ, [], ◌∷◌, false, Option, IfOk, IfErr, OnOk, ◌+◌, ◌-◌, ◌*◌, ◌<◌, length, ◌/◌, ◌%◌, Bool, true, nat_eq, nat_lt, List, ◌++◌, slice_index_or, slice_set, bit_and, bit_or, Fits, w8, w32, w64, Bor, MutBor}
-use Rattle.den_disk.specs.declared.place.Family.TheVariants.{State as state_family}
-use Rattle.den_model.specs.declared.log_id.LogId.{LogId}
-use Rattle.den_snapshot.specs.Snapshots.{taken_of}
-use Rattle.den_snapshot.specs.Words.{snapshot_word, FitsSnapshot}
-use Rattle.den_journal.specs.Writes.{DiskTells, GoesOn, Moves, StoreStands}
-use Rattle.den_state.specs.Checkpoint.{Replaces}
-use Rattle.den_state.specs.FileState.{map_held, state_map, state_settings, state_shown}
-use Rattle.den_state.specs.Snapshots.{installed, wants_lease, IsFound, IsUninstalled}
+use Rattle.std.proofs.Common.{sym, ◌∙◌}
+use Rattle.den_snapshot.specs.Words.{snapshot_in}
+use Rattle.den_state.proofs.Installing.{left, left_moves, unread}
 use Rattle.den_state.proofs.file_machine.FileStateMachine.find_snapshot.Goals as goal
 
--- src/snapshots.rt:80:21
 pub returns-then-wants_lease-clause-moves : goal.returns-then-wants_lease-clause-moves
-returns-then-wants_lease-clause-moves g c = ?
+returns-then-wants_lease-clause-moves g c =
+    let r = c.read_one.ensures.reads in
+    left_moves g.D.Disk c.args.self.now c.args.disk.now c.read_one.new.disk c.requires.stands r.spares (λ files tells i. (g.met.D.Disk.images_now c.args.disk.now files tells).0 i) r.images
 
--- src/snapshots.rt:80:21
 pub returns-then-wants_lease-clause-refused : goal.returns-then-wants_lease-clause-refused
-returns-then-wants_lease-clause-refused g c = ?
+unfolding snapshot_in
+returns-then-wants_lease-clause-refused g c = λ moment last.
+    let r = c.read_one.ensures.reads in (
+      left g.D.Disk c.args.self.now c.args.disk.now c.read_one.new.disk c.requires.stands r.spares,
+      record { taken = c.in-Ok.snapshot; found = record { there = λ tells. c.in-Ok.ensures.reads.value tells; wants = sym c.wants_lease.ensures ∙ c.if-wants_lease.true } },
+    )
 
--- src/snapshots.rt:64:5
+pub returns-then-is_fault-clause-moves : goal.returns-then-is_fault-clause-moves
+returns-then-is_fault-clause-moves g c =
+    let r = c.read_one.ensures.reads in
+    left_moves g.D.Disk c.args.self.now c.args.disk.now c.read_one.new.disk c.requires.stands r.spares (λ files tells i. (g.met.D.Disk.images_now c.args.disk.now files tells).0 i) r.images
+
 pub returns-else-wants_lease-clause-moves : goal.returns-else-wants_lease-clause-moves
-returns-else-wants_lease-clause-moves g c = ?
+returns-else-wants_lease-clause-moves g c =
+    let r = c.read_one.ensures.reads in
+    left_moves g.D.Disk c.args.self.now c.args.disk.now c.read_one.new.disk c.requires.stands r.spares (λ files tells i. (g.met.D.Disk.images_now c.args.disk.now files tells).0 i) r.images
 
--- src/snapshots.rt:64:5
 pub returns-else-wants_lease-clause-found : goal.returns-else-wants_lease-clause-found
-returns-else-wants_lease-clause-found g c = ?
+unfolding snapshot_in
+returns-else-wants_lease-clause-found g c = record { there = λ tells. c.in-Ok.ensures.reads.value tells; wants = sym c.wants_lease.ensures ∙ c.if-wants_lease.false }
 
--- src/snapshots.rt:64:5
-pub returns-after-matches-clause-moves : goal.returns-after-matches-clause-moves
-returns-after-matches-clause-moves g c = ?
+pub returns-else-is_fault-clause-moves : goal.returns-else-is_fault-clause-moves
+returns-else-is_fault-clause-moves g c =
+    let r = c.read_one.ensures.reads in
+    left_moves g.D.Disk c.args.self.now c.args.disk.now c.read_one.new.disk c.requires.stands r.spares (λ files tells i. (g.met.D.Disk.images_now c.args.disk.now files tells).0 i) r.images
 
--- src/snapshots.rt:64:5
-pub returns-after-matches-clause-refused : goal.returns-after-matches-clause-refused
-returns-after-matches-clause-refused g c = ?
+pub returns-else-is_fault-clause-refused : goal.returns-else-is_fault-clause-refused
+unfolding snapshot_in
+returns-else-is_fault-clause-refused g c = λ moment last.
+    let s = c.args.self.now in
+    unread g.D.Disk s.leased moment last s s c.args.disk.now c.read_one.new.disk c.in-Err.error (sym c.is_fault.ensures ∙ c.if-is_fault.false) c.in-Err.ensures.reads.refused
+    (left g.D.Disk s c.args.disk.now c.read_one.new.disk c.requires.stands c.read_one.ensures.reads.spares)
