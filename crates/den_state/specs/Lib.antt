@@ -4,6 +4,7 @@ pub mod Chunk
 pub mod Cleanup
 pub mod FileState
 pub mod Folds
+pub mod Laws
 pub mod Light
 pub mod Machine
 pub mod Regions

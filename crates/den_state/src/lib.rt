@@ -7,6 +7,13 @@
 //! records follow the last beginning, the call that added the last of them writes the map anew: a checkpoint. A reset writes
 //! the journal anew as a beginning with no entry.
 //!
+//! A snapshot is stored as the one word of the Snapshot family's files (den_snapshot, and `write_one` of den_journal), and
+//! from there it is put in the map's place: its map is written as a checkpoint into the slot that is not in use, which takes
+//! the old one's place in one step. Another server's snapshot gets there by its files.
+//!
+//! What any state machine keeps is said by the trait, and what this one keeps in its slots by the clauses of
+//! `FileStateMachine` (specs/Regions.antt): one region at each change, and a checkpoint exactly where 1,000 records follow.
+//!
 //! Invariants:
 //!
 //! 1. The regions of the State family's slot in use give pairs, expiries and the stored mark in memory: `rests` of
@@ -20,6 +27,11 @@
 //! 6. A checkpoint is the stored mark and all pairs with their expiries, in pages (specs/Checkpoint.antt). It is written into
 //!    the slot that is not in use; until its commit the other one stands (`IsWriting`, `Steps`), and from then on no record
 //!    follows its beginning (`short`).
+//! 7. A crash inside a call that stores a snapshot leaves the one that stood there, or the new one: `kept` of `Generates`. A
+//!    crash inside one that puts it in the map's place leaves the old map or the new one after its cleanup: `Installs`
+//!    (specs/Snapshots.antt). A snapshot that is carried to another server gives the same map there:
+//!    `snapshots_are_carried`.
+//! 8. The applied mark moves with the map, or not at all: `kept` of `put`.
 //!
 //!     let mut machine = FileStateMachine::new(alloc, &mut disk, None)?;
 //!     let results = machine.apply_chunk(&mut disk, chunk)?;
@@ -29,9 +41,11 @@
 mod checkpoint;
 mod cleanup;
 mod file_machine;
+mod laws;
 mod machine;
 mod snapshots;
 mod stored_map;
 
 pub use file_machine::{FileStateMachine, SnapshotMetadata};
+pub use laws::snapshots_are_carried;
 pub use machine::StateMachine;
