@@ -1,3 +1,4 @@
+pub mod Blobs
 pub mod Entries
 pub mod Table
 pub mod Kv
