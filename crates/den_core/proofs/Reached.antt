@@ -1,6 +1,5 @@
 -- The step of a run that was refused, behind those that were made.
-use Rattle.std.proofs.Common.{◌≡◌, ℕ, List, [], ◌∷◌, ◌++◌, refl, sym, ◌∙◌, ap, append_assoc}
-use Rattle.std.proofs.lemmas.List.{append-nil}
+use Rattle.std.proofs.Common.{◌≡◌, ℕ, List, [], ◌∷◌, ◌++◌, sym, ◌∙◌, ap, append_assoc}
 use Rattle.den_model.specs.Grown.{IsLogAfter}
 use Rattle.den_model.specs.Kv.{Kv}
 use Rattle.den_model.specs.Log.{Log}

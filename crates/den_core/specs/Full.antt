@@ -14,16 +14,16 @@ use Rattle.den_model.specs.Step.{Step}
 use Rattle.den_journal.specs.Causes.{IsRoomOf, IsTooShort}
 use Rattle.den_core.specs.PayloadSizes.{PayloadSizes, step_sizes}
 
--- A family's slot in use has too little room for one of the payloads that are added to it, or its other slot for one of those
--- that are put there, of no more than so many bytes, behind the slot's regions: the room that it would need.
+-- A family's slot in use has too little room for one of the payloads that are added to it, or its other slot for one
+-- of those that are put there, of no more than so many bytes, behind the slot's regions: the room that it would need.
 pub record IsSlotTooShort (sizes : PayloadSizes) (most needed : ℕ) (files : Files) : Type 0 where
   pub family : Family
   pub short : IsTooShort (slot_of family files) (λ n. sizes.adds family n × (n ≤ most)) needed files
       ⊎ IsTooShort (other_slot (slot_of family files)) (λ n. sizes.drafts family n × (n ≤ most)) needed files
 
--- Only where four times this weight, of what was handed in so far, is above the limit of a file. The room that is named is
--- that of regions of no more bytes, with the gate behind them, in whole chunks; and, where it is told what files hold, this
--- is said of it.
+-- Only where four times this weight, of what was handed in so far, is above the limit of a file. The room that is
+-- named is that of regions of no more bytes, with the gate behind them, in whole chunks; and, where it is told what
+-- files hold, this is said of it.
 abbrev pub IsFullBy : (told : Type 0) (short : ℕ → Type 0) (most weight : ℕ) → Error → Type 0
 IsFullBy told short most weight (DiskFull needed limit) = (most < 4 * weight) × IsRoomOf weight needed × (told → short needed)
 IsFullBy told short most weight OutOfMemory = Unit {0}
@@ -38,8 +38,8 @@ IsFullBy told short most weight StateMachineError = Unit {0}
 
 -- ---- of a step
 
--- One of some steps, and the state and the log over which it was begun: the steps before it were made from a first state, and
--- this is said of them and of the log.
+-- One of some steps, and the state and the log over which it was begun: the steps before it were made from a first
+-- state, and this is said of them and of the log.
 pub record IsNext (left : List Step → Log → Type 0) (first : Kv) (steps : List Step) (kv : Kv) (log : Log) (next : Step) : Type 0 where
   pub made : List Step
   pub rest : List Step
@@ -55,8 +55,8 @@ IsBegun first old steps = IsNext (λ made l. (l ≡ appended old (logged first m
 abbrev pub IsReached : Kv → Log → List Step → (sent : List ℕ) → Kv → Log → Step → Type 0
 IsReached first old steps sent = IsNext (λ made l. IsLogAfter old first made l × (sent ≡ output first made)) first steps
 
--- A step that was begun so was refused: a slot has too little room for a payload that this step writes. The log may hold so
--- many entries behind a step.
+-- A step that was begun so was refused: a slot has too little room for a payload that this step writes. The log may
+-- hold so many entries behind a step.
 pub record IsStepTooShort (begun : Kv → Log → Step → Type 0) (entries most needed : ℕ) (files : Files) : Type 0 where
   pub kv : Kv
   pub log : Log

@@ -76,8 +76,8 @@ module _ {D : Type 0} (disk : Ghosts D) where
       pub stays_ready : was.ready → now.ready
       pub stays_at_rest : DiskTells disk old → was.rests (disk.content old) → now.rests (disk.content new)
 
-    -- A refusal of a call by which the weight rises so much at most. `short` is said of the room that a full disk is told, and
-    -- `written` is what was written where want of memory left a stepper that has failed.
+    -- A refusal of a call by which the weight rises so much at most. `short` is said of the room that a full disk is
+    -- told, and `written` is what was written where want of memory left a stepper that has failed.
     pub record IsStepRefused (says : Says) (rise : ℕ) (short : (most needed : ℕ) → Files → Type 0) (written : Type 0) (e : Error) : Type 0 where
       pub cause : IsRefusal (Faulted disk old new) (disk.kind old).limit e
       pub full : IsFullBy (DiskTells disk old × says.told) (λ needed. short (was.weight + rise) needed (disk.content new).reading) (disk.kind old).limit (was.weight + rise) e
@@ -109,8 +109,8 @@ module _ {D : Type 0} (disk : Ghosts D) where
       pub weight : now.weight ≤ was.weight + rise
       pub rests : DiskTells disk old → now.rests (disk.content new)
 
-    -- A call that makes this durable part and appends these entries, by payloads of these sizes. A crash inside leaves the old
-    -- part or the new one. The snapshot's files are left alone.
+    -- A call that makes this durable part and appends these entries, by payloads of these sizes. A crash inside
+    -- leaves the old part or the new one. The snapshot's files are left alone.
     pub record Changes {T : Type 0} (says : Says) (to : Durable) (entries : List LogEntry) (sizes : PayloadSizes) (rise : ℕ) (result : Result T Error) : Type 0 where
       pub goes_on : GoesOn disk old new
       pub snapshot : DiskTells disk old → SparesFamily snapshot_family disk.content disk.moment disk.images old new
@@ -119,9 +119,9 @@ module _ {D : Type 0} (disk : Ghosts D) where
       pub done : OnOk result (Changed to entries rise)
       pub refused : IfErr result (IsStepRefused says rise (IsSlotTooShort sizes) (HasJoined was.log entries now.log))
 
-    -- A call that serves frames. A log that was short at entry is at Ok, and so is a state machine. A full disk is told by the
-    -- weight that it comes to at most, of a step that was begun so. The link may refuse it too, where its count of faults rose.
-    -- The snapshot's files are left alone.
+    -- A call that serves frames. A log that was short at entry is at Ok, and so is a state machine. A full disk is
+    -- told by the weight that it comes to at most, of a step that was begun so. The link may refuse it too, where its
+    -- count of faults rose. The snapshot's files are left alone.
     pub record Serves {T : Type 0} (says : Says) (link_faulted : Type 0) (begun : Kv → Log → Step → Type 0) (most : ℕ) (result : Result T Error) : Type 0 where
       pub goes_on : GoesOn disk old new
       pub snapshot : DiskTells disk old → SparesFamily snapshot_family disk.content disk.moment disk.images old new

@@ -11,13 +11,13 @@ use Rattle.den_model.specs.Kv.{Durable, Kv}
 use Rattle.den_model.specs.Log.{Log, floor, last_index}
 use Rattle.den_model.specs.MapState.{MapState, map_applied_all}
 use Rattle.den_model.specs.Step.{Step, Raise, Noop, Cleanup, Ask, step}
-use Rattle.den_journal.specs.Shown.{Effect}
 use Rattle.den_store.specs.Changes.{log_change, purge_change, state_change}
 use Rattle.den_state.specs.Changes.{chunk_change, cleanup_change}
 use Rattle.den_core.specs.Parts.{vote_of}
 use Rattle.den_core.specs.Trimmed.{mark_of}
 
--- By family: the sizes of the payloads that may be added to its slot in use, and of those that may be put into its other slot.
+-- By family: the sizes of the payloads that may be added to its slot in use, and of those that may be put into its
+-- other slot.
 pub record PayloadSizes : Type 1 where
   pub adds : Family → ℕ → Type 0
   pub drafts : Family → ℕ → Type 0

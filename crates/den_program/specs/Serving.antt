@@ -28,9 +28,10 @@ is_status n = n == 0 || n == 1 || n == 5 || n == 6 || n == 7 || n == 8 || n == 9
 abbrev pub IsCorrupt : Option Error → Type 0
 IsCorrupt refusal = (place : ℕ) × (offset : ℕ) × (refusal ≡ Some (DataCorruption place offset))
 
--- The statuses of serving and their causes: 5 and 6 only where the count of faults of the disk or the link rose; 7 only
--- where much was held and taken, and a room of which this is said is above the disk's limit, and 8 to 10 only for what files
--- are refused, where the disk tells its bytes. Of a disk that does not tell, nothing bounds what its files may need.
+-- The statuses of serving and their causes: 5 and 6 only where the count of faults of the disk or the link rose; 7
+-- only where much was held and taken, and a room of which this is said is above the disk's limit, and 8 to 10 only
+-- for what files are refused, where the disk tells its bytes. Of a disk that does not tell, nothing bounds what its
+-- files may need.
 pub record HasStatus (disk_rose link_rose told : Type 0) (refusal : Option Error) (short : (most needed : ℕ) → Type 0) (most held taken status : ℕ) : Type 0 where
   pub known : is_status status ≡ true
   pub storage : status ≡ 5 → disk_rose

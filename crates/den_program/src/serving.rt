@@ -98,8 +98,9 @@ pub fn serve_main<D: Disk, L: Link, C: Clock, S: Source, E: Sink>(
     ensures untouched { result ≡ 2 → (disk.new ≡ disk.old) × (link.new ≡ link.old) × (clock.new ≡ clock.old) }
     ensures conf { _conf.new ≡ _conf.old }
 
-    // Each other status has its cause, but for want of memory; that of 7 stands where the disk tells its bytes: the room that
-    // one slot would need for a payload of the plan's next step, or of the entries that the map lacked at opening.
+    // Each other status has its cause, but for want of memory; that of 7 stands where the disk tells its bytes: the
+    // room that one slot would need for a payload of the plan's next step, or of the entries that the map lacked at
+    // opening.
     ensures status { (result ≡ 2 → ⊥) → EndsWith D.Disk L.Link C.Clock standard_run disk.old disk.new link.old link.new clock.old clock.new result }
 
     // Files that are to be refused are: nothing is written, read, sent or timed.

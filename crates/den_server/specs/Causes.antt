@@ -32,8 +32,9 @@ IsMuch most bytes = most < 1024 * (bytes + 4096)
 abbrev pub most_run : (held taken : ℕ) → ℕ
 most_run held taken = 5120 + 8 * held + 256 * taken
 
--- Of files as they are read at entry, the entries of the log above the map's mark, which opening lets the map take on: a slot
--- of the map, in files as these, has too little room for a payload that they make, of no more than so many bytes.
+-- Of files as they are read at entry, the entries of the log above the map's mark, which opening lets the map take
+-- on: a slot of the map, in files as these, has too little room for a payload that they make, of no more than so many
+-- bytes.
 pub record IsCatchUpTooShort (read : Files) (most needed : ℕ) (files : Files) : Type 0 where
   pub log : Log
   pub map : MapState
@@ -53,9 +54,9 @@ pub record IsFull (told : Type 0) (refusal : Option Error) (short : (most needed
   pub slot : told → short (most_run held taken) needed
   pub much : told → IsMuch most (held + taken)
 
--- Of a run, and of its opening, where no link is lent and nothing is taken: want of memory; a fault of the disk or the link
--- where its count rose; a room that is above the disk's limit, of which this is said; and, where the disk tells its bytes,
--- exactly what files are refused for.
+-- Of a run, and of its opening, where no link is lent and nothing is taken: want of memory; a fault of the disk or
+-- the link where its count rose; a room that is above the disk's limit, of which this is said; and, where the disk
+-- tells its bytes, exactly what files are refused for.
 abbrev pub IsRunRefusal : (disk_rose link_rose told : Type 0) (refusal : Option Error) (short : (most needed : ℕ) → Type 0) (most held taken : ℕ) → Error → Type 0
 IsRunRefusal disk_rose link_rose told refusal short most held taken OutOfMemory = Unit {0}
 IsRunRefusal disk_rose link_rose told refusal short most held taken StorageIoError = disk_rose

@@ -110,19 +110,19 @@ module _ {D L C : Type 0} (disk : Disks D) (link : Links L) (clock : Clocks C) w
   -- ---- why it ends early
 
   module _ (config : RunConfig) (old new : D) (from to : L) (before after : C) where
-    -- The room that one slot would need, in the files as they read at the end. Either for a payload of the entries that opening
-    -- lets the map take on; or for one that a step writes, which is the next of the plan: those before it were made, with their
-    -- entries in the log, and just what they say was sent.
+    -- The room that one slot would need, in the files as they read at the end. Either for a payload of the entries
+    -- that opening lets the map take on; or for one that a step writes, which is the next of the plan: those before
+    -- it were made, with their entries in the log, and just what they say was sent.
     abbrev pub IsRunTooShort : (most needed : ℕ) → Type 0
     IsRunTooShort most needed = IsCatchUpTooShort (disk.content old).reading most needed (disk.content new).reading
         ⊎ IsStepTooShort (λ kv log next. (kept : Durable) (held : Log) → Told config old new from to before after → Reads config old new from to before after kept → log_in (disk.content old).reading ≡ Ok held
         → IsReached (start config kept) held (planned config old new from to before after kept) (bytes_of (sent config old new from to before after)) kv log next)
         config.max_log_entries most needed (disk.content new).reading
 
-    -- An answer other than Ok has its cause: files are refused for what they are refused for, and for nothing else; the
-    -- disk is told to be full only with a room that is above its limit and that one of its slots would need at the end for a
-    -- payload that was to be written then, and only where the bytes of its regions at entry and those taken from the link are
-    -- much.
+    -- An answer other than Ok has its cause: files are refused for what they are refused for, and for nothing else;
+    -- the disk is told to be full only with a room that is above its limit and that one of its slots would need at
+    -- the end for a payload that was to be written then, and only where the bytes of its regions at entry and those
+    -- taken from the link are much.
     abbrev pub EndsEarly : Error → Type 0
     EndsEarly e = IsRunRefusal (Faulted disk old new) (Rose (link.faults from) (link.faults to)) (DiskTells disk old) (refusal_in (disk.content old).reading)
         IsRunTooShort (disk.kind old).limit (files_size (disk.content old).reading) (link.taken to - link.taken from) e

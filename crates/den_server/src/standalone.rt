@@ -48,9 +48,10 @@ impl StandaloneEngine {
         ensures opening { SurvivesPending D.Disk L.Link C.Clock (run_config config.now.node) disk.old disk.new link.old link.new clock.old clock.new (IsOk result) }
 
         // Each other answer has its cause: files are refused for what they are refused for, and for nothing else; the
-        // disk is told to be full only with a room, in whole chunks, that is above its limit and that one of its slots would
-        // need for a payload that was to be written then: of the plan's next step, or of the entries that the map lacked at
-        // opening; and only where the bytes of its regions at entry and those taken from the link are much.
+        // disk is told to be full only with a room, in whole chunks, that is above its limit and that one of its
+        // slots would need for a payload that was to be written then: of the plan's next step, or of the entries that
+        // the map lacked at opening; and only where the bytes of its regions at entry and those taken from the link
+        // are much.
         ensures refused { IfErr result (EndsEarly D.Disk L.Link C.Clock (run_config config.now.node) disk.old disk.new link.old link.new clock.old clock.new) }
 
         // Files that are to be refused are: nothing is written, read, sent or timed.
