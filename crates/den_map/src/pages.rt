@@ -1,6 +1,7 @@
 //! The pairs of a map: all of them, and in pages, each small enough for one region of a file.
-ghost use Rattle.std.specs.Prelude.{◌≡◌, ◌-◌, ◌^◌, ◌++◌, min, List, length, option_copied, IfOk, OnOk};
+ghost use Rattle.std.specs.Prelude.{◌≡◌, ◌-◌, ◌^◌, ◌++◌, min, List, length, map, option_copied, IfOk, OnOk};
 ghost use Rattle.den_model.specs.declared.region.StoredPair.{StoredPair};
+ghost use Rattle.den_table.specs.Keyed.{behind as keys_behind};
 ghost use Rattle.den_map.specs.Held.{IsSound};
 ghost use Rattle.den_map.specs.Pages.{IsPage, last_key, stored, stored_pairs};
 ghost use Rattle.den_map.specs.Sizes.{pair_size};
@@ -67,6 +68,7 @@ impl Map {
         ensures sound { OnOk result (IsSound self.now) }
         ensures page { (front left : List StoredPair) → front ++ left ≡ stored_pairs self.now → option_copied behind.entry ≡ last_key front
             → IfOk result (λ page. IsPage left page) }
+        ensures any_key { IfOk result (λ page. IsPage (map (stored self.now.expiries) (keys_behind (option_copied behind.entry) self.now.pairs)) page) }
     {
         let start = match behind {
             None => None,

@@ -31,14 +31,14 @@ loop-key-preserved c =
       ];
     }
 
-pub returns-clause-page : goal.returns-clause-page
-returns-clause-page c = λ front left is_all is_last.
+pub returns-clause-any_key : goal.returns-clause-any_key
+returns-clause-any_key c =
     let t = c.args.self.now.pairs in
     let x = c.args.self.now.expiries in
     let page = c.loop-key.pairs.items in
     let it = c.loop-key.key-iterator in
-    let behind_it : map (stored x) (behind (option_copied c.args.behind) t) ≡ left = ap (λ k. map (stored x) (behind k t)) is_last ∙ behind_front x left front t c.pairs_behind-key-items.ensures.sound.sorted is_all in
-    let parts : page ++ map (stored x) (keyed it) ≡ left = c.loop-key.invariant.pairs ∙ behind_it in
+    let left = map (stored x) (behind (option_copied c.args.behind) t) in
+    let parts : page ++ map (stored x) (keyed it) ≡ left = c.loop-key.invariant.pairs in
     subst (IsPage left) (sym c.of.ensures) (elim c.match-next.branch [
       | in-None-2 w ↦ page_last left page c.loop-key.size (ap (λ (l : List (Vec ℕ × Held)). page ++ map (stored x) (keyed l)) (sym w.in-None-2.ensures.steps.0) ∙ parts) c.loop-key.invariant.size c.loop-key.invariant.small
       | in-Some-2+then-not-is_empty+then-size-gt-LIMIT w ↦
@@ -51,3 +51,10 @@ returns-clause-page c = λ front left is_all is_last.
           w.as_slice-in-loop-key.ensures.value w.as_slice-in-loop-key-2.ensures c.loop-key.invariant.size w.pair_size.ensures w.saturating_add-size.ensures)
           w.if-size-gt-LIMIT.true
     ])
+
+pub returns-clause-page : goal.returns-clause-page
+returns-clause-page c = λ front left is_all is_last.
+    let t = c.args.self.now.pairs in
+    let x = c.args.self.now.expiries in
+    let behind_it : map (stored x) (behind (option_copied c.args.behind) t) ≡ left = ap (λ k. map (stored x) (behind k t)) is_last ∙ behind_front x left front t c.pairs_behind-key-items.ensures.sound.sorted is_all in
+    subst (λ (l : List StoredPair). IsPage l c.of.result) behind_it (returns-clause-any_key c)
