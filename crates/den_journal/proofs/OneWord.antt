@@ -1,20 +1,21 @@
 -- What a family of one word keeps while it is written.
 use Rattle.std.proofs.Common.{◌≡◌, ◌⊎◌, inl, inr, ⊎_elim, ℕ, ◌≤◌, IsTrue, List, [], ◌∷◌, length, take, get_or, Option, None, Result, Ok, Err, refl, sym, ap, ◌∙◌, subst, arith}
-use Rattle.std.specs.Prelude.{IsErr}
+use Rattle.std.specs.Prelude.{IsErr, IfOk}
 use Rattle.std.proofs.Math.Nat.{le_refl}
 use Rattle.std.proofs.lemmas.Bool.{cases_lt}
 use Rattle.den_disk.specs.declared.disk.Disk.{Ghosts}
 use Rattle.den_disk.specs.declared.place.Family.{Family}
 use Rattle.den_disk.specs.declared.place.Part.{Part}
 use Rattle.den_disk.specs.declared.place.Place.{Place}
-use Rattle.den_disk.specs.Files.{Files, Kind}
+use Rattle.den_disk.specs.declared.place.Part.TheVariants.{A}
+use Rattle.den_disk.specs.Files.{Files, Content, Kind}
 use Rattle.den_disk.specs.Crash.{Leaves}
 use Rattle.den_disk.specs.Goes.{ImagesGoOn, Rose}
 use Rattle.den_disk.specs.Families.{SparesAll, SparesOthers, SparesImages, NoNewImages}
 use Rattle.den_disk.proofs.Images.{itself}
 use Rattle.den_disk.proofs.Moments.{and_then, weaker}
 use Rattle.den_model.specs.Regions.{Region, open_regions, placed}
-use Rattle.den_model.specs.Image.{slot_of}
+use Rattle.den_model.specs.Image.{named, head_of, slot_of}
 use Rattle.den_codec.specs.declared.error.Error.{Error}
 use Rattle.den_gate.specs.declared.error.GateError.{GateError}
 use Rattle.den_gate.specs.declared.error.GateError.TheVariants as cause
@@ -26,7 +27,7 @@ use Rattle.den_gate.specs.Gate.{payloads, IsAtRest, IsCurrent}
 use Rattle.den_gate.specs.Draft.{other_slot, Flips, KeepsList, PassesLimit, RestsWith, Rewrites, WritesOwn}
 use Rattle.den_gate.proofs.Alone.{Law}
 use Rattle.den_gate.proofs.Families.{rest_list, rest_image}
-use Rattle.den_journal.specs.OneWord.{family_regions, one_of, GivesAsBefore, HasOne, HasWords, IsKept, IsOne, IsUnwritten, KeepsOrEmpties, WritesOne}
+use Rattle.den_journal.specs.OneWord.{family_regions, one_of, slot_at_start, start_of, GivesAsBefore, HasOne, HasWords, IsKept, IsOne, IsUnwritten, KeepsOrEmpties, WritesOne}
 use Rattle.den_journal.specs.Refused.{refusal}
 use Rattle.den_journal.specs.Writes.{GoesOn, DiskTells, Faulted}
 use Rattle.den_journal.proofs.Emptying.{regions_same, read_leaves}
@@ -106,6 +107,31 @@ value_kept disk law family word read old new result w tells t files low high i =
     }) kept))
     ((w.any_moment tells).each t files low high i)
 
+-- ---- the slot in use
+
+unread_start : (found : Result (List Region) ℕ) (slot : Place) → IsErr found → start_of found slot ≡ record { family = slot.family; part = A }
+unread_start (Ok rs) slot bad = absurd (cc bad)
+unread_start (Err offset) slot bad = refl
+
+-- where the regions could be read it is the one that the head names
+pub start_named : (gate : GateFile) (family : Family) (c d : Content) → gate.slot.family ≡ family → SparesAll c d → IsAtRest gate d → IsCurrent gate.slot d → gate.slot ≡ slot_of family c.reading
+    → gate.slot ≡ slot_at_start family c.reading
+start_named gate family c d own spares rest current is =
+    let list = payloads gate d.reading in
+    let read : family_regions family d.reading ≡ Ok (placed 0 list) = subst (λ (f : Family). family_regions f d.reading ≡ Ok (placed 0 list)) own (rest_list gate d rest current).list_is in
+    let before : family_regions family c.reading ≡ Ok (placed 0 list) = sym (regions_same family c.reading d.reading (λ q is. spares.reading q)) ∙ read in
+    is ∙ sym (ap (λ (found : Result (List Region) ℕ). start_of found (slot_of family c.reading)) before)
+
+-- and A where they could not
+start_emptied : (slot : Place) (family : Family) (was files : Files) → IsErr (family_regions family was) → files (head_of family) ≡ [] → slot ≡ slot_of family files → slot ≡ slot_at_start family was
+start_emptied slot family was files bad head is =
+    is ∙ ap (λ (bytes : List ℕ). record { family = family; part = named bytes }) head ∙ sym (unread_start (family_regions family was) (slot_of family was) bad)
+
+pub if_loaded : {E : Type 0} (family : Family) (was files : Files) → IsErr (family_regions family was) → files (head_of family) ≡ [] → (result : Result GateFile E)
+    → IfOk result (λ gate. gate.slot ≡ slot_of family files) → IfOk result (λ gate. gate.slot ≡ slot_at_start family was)
+if_loaded family was files bad head (Ok gate) is = start_emptied gate.slot family was files bad head is
+if_loaded family was files bad head (Err e) is = tt
+
 -- ---- a family that was not loaded
 
 unloaded_why : (rose told : Type 0) (family own : Family) (files : Files) (size most : ℕ) (e : GateError) → Because ⊥ rose (λ needed limit. ⊥) (λ part offset. told → ⊥) e
@@ -128,6 +154,7 @@ unloaded disk law family word old new e goes images spares kept why =
       images = images;
       spares = spares;
       written = λ tells. tt;
+      slot = λ tells. tt;
       any_moment = run;
       kept = λ tells. kept_words disk law family word old new tells (run tells);
       refused = unloaded_why (Faulted disk old new) (DiskTells disk old) family family (disk.content new).reading (length word) (disk.kind old).limit e why;
@@ -143,6 +170,7 @@ pub record Began {D : Type 0} (disk : Ghosts D) (family : Family) (gate : GateFi
   pub any_moment : DiskTells disk old → Leaves disk.content disk.moment disk.images (λ t files. IsKept family (disk.images old (disk.moment old)) (disk.content old).reading files) old mid
   pub at_rest : DiskTells disk old → IsAtRest gate (disk.content mid)
   pub current : DiskTells disk old → IsCurrent gate.slot (disk.content mid)
+  pub slot : DiskTells disk old → gate.slot ≡ slot_at_start family (disk.content old).reading
 
 words_of : (one two : List (List ℕ)) → one ≡ two → ◌≡◌ {A = Result (List Region) ℕ} (Ok (placed 0 one)) (Ok (placed 0 two))
 words_of one two is = ap (λ (ps : List (List ℕ)). Ok (placed 0 ps)) is
@@ -219,13 +247,16 @@ module _ {D : Type 0} (disk : Ghosts D) (law : Law disk) (gate now : GateFile) (
         (λ h. inl h.list_is) f.stands)
         (rewrites (on tells)).any_moment)
 
-    pub word_written : {T : Type 0} (x : T) → (DiskTells disk mid → RestsWith now (word ∷ []) (disk.content new)) → WritesOne disk gate.slot.family word old new (Ok x)
-    word_written x rests = record {
+    pub word_written : {T : Type 0} (x : T) → (DiskTells disk mid → RestsWith now (word ∷ []) (disk.content new)) → now.slot ≡ other_slot gate.slot → WritesOne disk gate.slot.family word old new (Ok x)
+    word_written x rests moved = record {
       goes_on = goes;
       images = images;
       spares = spares;
       written = λ tells. subst (λ (f : Family). IsOne disk f word new) writes.own
           (is_one disk law now word new (subst (λ (k : Kind). IsTrue k.tells) (sym writes.goes_on.same) (on tells)) (rests (on tells)));
+      slot = λ tells.
+          let r = rests (on tells) in
+          subst (λ (f : Family). slot_of f (disk.content new).reading ≡ now.slot) writes.own (rest_list now (disk.content new) r.at_rest r.current).slot_same ∙ moved ∙ ap other_slot (began.slot tells);
       any_moment = run;
       kept = λ tells. kept_words disk law gate.slot.family word old new tells (run tells);
       refused = tt;
@@ -260,6 +291,7 @@ module _ {D : Type 0} (disk : Ghosts D) (law : Law disk) (gate now : GateFile) (
       images = images;
       spares = spares;
       written = λ tells. tt;
+      slot = λ tells. tt;
       any_moment = run;
       kept = λ tells. kept_words disk law gate.slot.family word old new tells (run tells);
       refused = unwritten_why own e why;

@@ -2,6 +2,8 @@
 use Rattle.std.specs.Prelude.{◌≡◌, ◌⊎◌, ◌<◌, ◌≤◌, ◌^◌, ℕ, List, [], ◌∷◌, length, Option, Some, None, Result, Ok, Err, IsErr, IfOk, IfErr, OnOk}
 use Rattle.den_disk.specs.declared.disk.Disk.{Ghosts}
 use Rattle.den_disk.specs.declared.place.Family.{Family}
+use Rattle.den_disk.specs.declared.place.Part.TheVariants.{A}
+use Rattle.den_disk.specs.declared.place.Place.{Place}
 use Rattle.den_disk.specs.Place.{place_number}
 use Rattle.den_disk.specs.Files.{Files}
 use Rattle.den_disk.specs.Crash.{Leaves}
@@ -30,6 +32,15 @@ one_of read (Err offset) = None
 -- the regions of the slot that the family's head names, or the offset of the gate from which they cannot be read
 abbrev pub family_regions : Family → Files → Result (List Region) ℕ
 family_regions family files = regions (files (slot_of family files))
+
+-- the slot with these regions, and A where they cannot be read
+abbrev pub start_of : Result (List Region) ℕ → Place → Place
+start_of (Ok rs) slot = slot
+start_of (Err offset) slot = record { family = slot.family; part = A }
+
+-- the slot that the family's head names, and A where its regions cannot be read: the files are emptied then
+abbrev pub slot_at_start : Family → Files → Place
+slot_at_start family files = start_of (family_regions family files) (slot_of family files)
 
 -- the value whose word is the one region of the slot that the family's head names
 abbrev pub one_in : {A : Type 0} → Family → (List ℕ → Option A) → Files → Option A
@@ -111,14 +122,15 @@ module _ {D : Type 0} (disk : Ghosts D) (family : Family) where
     pub refused : IfErr result (IsUnread (Faulted disk old new) (λ place offset. DiskTells disk old →
         (place ≡ place_number (slot_of family (disk.content old).reading)) × (offset ≡ 0) × (one_in family read (disk.content old).reading ≡ None)))
 
-  -- A writing of one word in the place of all that a family's files hold. A crash at each moment leaves the regions that
-  -- a crash before might have left, or this word, or none, where the regions could not be read. So where they were some
-  -- words, they are those or this one.
+  -- A writing of one word in the place of all that a family's files hold: it stands in the slot that was not in use, and the
+  -- other one is empty then. A crash at each moment leaves the regions that a crash before might have left, or this word, or
+  -- none, where the regions could not be read. So where they were some words, they are those or this one.
   pub record WritesOne {T : Type 0} (word : List ℕ) (old new : D) (result : Result T Error) : Type 0 where
     pub goes_on : GoesOn disk old new
     pub images : DiskTells disk old → SparesImages family (disk.images old) (disk.images new) (disk.moment old) (disk.moment new)
     pub spares : DiskTells disk old → SparesOthers family (disk.content old) (disk.content new)
     pub written : DiskTells disk old → OnOk result (IsOne word new)
+    pub slot : DiskTells disk old → OnOk result (slot_of family (disk.content new).reading ≡ other_slot (slot_at_start family (disk.content old).reading))
     pub any_moment : DiskTells disk old → Leaves disk.content disk.moment disk.images
         (λ t files. HasOne family word files ⊎ IsKept family (disk.images old (disk.moment old)) (disk.content old).reading files) old new
     pub kept : DiskTells disk old → (was : List (List ℕ)) → ((files : Files) → disk.images old (disk.moment old) files → HasWords family was files)

@@ -3,11 +3,12 @@ ghost use Rattle.std.specs.Prelude.{◌≡◌, [], false, IsTrue, IsErr, IfErr, 
 ghost use Rattle.den_disk.specs.Crash.{Leaves};
 ghost use Rattle.den_disk.specs.Goes.{DiskGoesOn, HasCause, Rose};
 ghost use Rattle.den_disk.specs.Families.{SparesOthers, SparesImages};
+ghost use Rattle.den_model.specs.Image.{head_of};
 ghost use Rattle.den_model.specs.Reading.{whole};
 ghost use Rattle.den_gate.specs.Causes.{Because};
 ghost use Rattle.den_gate.specs.Steps.{RunSparesOthers};
 ghost use Rattle.den_gate.specs.Gate.{IsAtRest, IsCurrent};
-ghost use Rattle.den_journal.specs.OneWord.{refusal_at_start, HasWords, IsKept, KeepsOrEmpties, ReadsOne, WritesOne};
+ghost use Rattle.den_journal.specs.OneWord.{refusal_at_start, slot_at_start, HasWords, IsKept, KeepsOrEmpties, ReadsOne, WritesOne};
 
 use crate::family::{file_number, refusal};
 use den_codec::{Error, Word};
@@ -81,6 +82,7 @@ fn load_or_empty<D: Disk>(family: Family, disk: &mut D) -> Result<GateFile, Gate
     ensures ready { IfOk result (λ gate. gate.failed ≡ false) }
     ensures at_rest { IsTrue (D.kind disk.old).tells → IfOk result (λ gate. IsAtRest gate (D.content disk.new)) }
     ensures current { IsTrue (D.kind disk.old).tells → IfOk result (λ gate. IsCurrent gate.slot (D.content disk.new)) }
+    ensures slot { IsTrue (D.kind disk.old).tells → IfOk result (λ gate. gate.slot ≡ slot_at_start family (D.content disk.old).reading) }
     ensures refused { IfErr result (Because ⊥ (Rose (D.faults disk.old) (D.faults disk.new)) (λ needed limit. ⊥) (λ part offset. IsTrue (D.kind disk.old).tells → ⊥)) }
 {
     match GateFile::load(family, disk) {
@@ -104,6 +106,7 @@ fn empty<D: Disk>(disk: &mut D, family: Family) -> Result<(), DiskFault>
     ensures any_moment { IsTrue (D.kind disk.old).tells → (D.content disk.old).pending ≡ [] → Leaves D.content D.moment D.images
         (λ t files. KeepsOrEmpties family (D.content disk.old).reading files) disk.old disk.new }
     ensures emptied { IsTrue (D.kind disk.old).tells → OnOk result (HasWords family [] (D.content disk.new).reading) }
+    ensures head { IsTrue (D.kind disk.old).tells → OnOk result ((D.content disk.new).reading (head_of family) ≡ []) }
 {
     disk.resize(
         Place {

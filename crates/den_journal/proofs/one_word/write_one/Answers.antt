@@ -27,11 +27,11 @@ returns-in-Ok-rewrite g c =
     let lo = c.in-Ok.ensures in
     let own = lo.family in
     let began : Began D c.args.family gate d0 d1 =
-    record { goes_on = lo.disk; images = lo.images; spares = lo.others; any_moment = lo.any_moment; at_rest = lo.at_rest; current = lo.current } in
+    record { goes_on = lo.disk; images = lo.images; spares = lo.others; any_moment = lo.any_moment; at_rest = lo.at_rest; current = lo.current; slot = lo.slot } in
     record {
       writes = subst (λ (f : Family). WritesOne D f {T = Unit {0}} c.args.word d0 d2 (Ok (tt {0}))) own
           (word_written D g.met.D.Disk.images_now gate c.rewrite.new.self c.args.word d0 d1 d2 (subst (λ (f : Family). Began D f gate d0 d1) (sym own) began) _
-          c.in-Ok-rewrite.ensures.writes c.in-Ok-rewrite.ensures.rewrites (tt {0}) c.in-Ok-rewrite.ensures.rests);
+          c.in-Ok-rewrite.ensures.writes c.in-Ok-rewrite.ensures.rewrites (tt {0}) c.in-Ok-rewrite.ensures.rests c.in-Ok-rewrite.ensures.rewritten.slot);
     }
 
 pub returns : goal.returns
@@ -44,7 +44,7 @@ returns g c =
     let lo = c.in-Ok.ensures in
     let own = lo.family in
     let began : Began D c.args.family gate d0 d1 =
-    record { goes_on = lo.disk; images = lo.images; spares = lo.others; any_moment = lo.any_moment; at_rest = lo.at_rest; current = lo.current } in
+    record { goes_on = lo.disk; images = lo.images; spares = lo.others; any_moment = lo.any_moment; at_rest = lo.at_rest; current = lo.current; slot = lo.slot } in
     record {
       writes = subst (λ (e : Error). WritesOne D c.args.family {T = Unit {0}} c.args.word d0 d2 (Err e)) (sym c.refusal-in-Err-rewrite.ensures)
           (subst (λ (f : Family). WritesOne D f {T = Unit {0}} c.args.word d0 d2 (Err (refusal c.args.family c.in-Err-rewrite.error))) own
