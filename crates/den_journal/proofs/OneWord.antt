@@ -155,6 +155,7 @@ unloaded disk law family word old new e goes images spares kept why =
       spares = spares;
       written = λ tells. tt;
       slot = λ tells. tt;
+      cleared = λ tells. tt;
       any_moment = run;
       kept = λ tells. kept_words disk law family word old new tells (run tells);
       refused = unloaded_why (Faulted disk old new) (DiskTells disk old) family family (disk.content new).reading (length word) (disk.kind old).limit e why;
@@ -247,8 +248,9 @@ module _ {D : Type 0} (disk : Ghosts D) (law : Law disk) (gate now : GateFile) (
         (λ h. inl h.list_is) f.stands)
         (rewrites (on tells)).any_moment)
 
-    pub word_written : {T : Type 0} (x : T) → (DiskTells disk mid → RestsWith now (word ∷ []) (disk.content new)) → now.slot ≡ other_slot gate.slot → WritesOne disk gate.slot.family word old new (Ok x)
-    word_written x rests moved = record {
+    pub word_written : {T : Type 0} (x : T) → (DiskTells disk mid → RestsWith now (word ∷ []) (disk.content new)) → now.slot ≡ other_slot gate.slot
+        → (DiskTells disk mid → (disk.content new).reading gate.slot ≡ []) → WritesOne disk gate.slot.family word old new (Ok x)
+    word_written x rests moved gone = record {
       goes_on = goes;
       images = images;
       spares = spares;
@@ -257,6 +259,7 @@ module _ {D : Type 0} (disk : Ghosts D) (law : Law disk) (gate now : GateFile) (
       slot = λ tells.
           let r = rests (on tells) in
           subst (λ (f : Family). slot_of f (disk.content new).reading ≡ now.slot) writes.own (rest_list now (disk.content new) r.at_rest r.current).slot_same ∙ moved ∙ ap other_slot (began.slot tells);
+      cleared = λ tells. subst (λ (p : Place). (disk.content new).reading p ≡ []) (began.slot tells) (gone (on tells));
       any_moment = run;
       kept = λ tells. kept_words disk law gate.slot.family word old new tells (run tells);
       refused = tt;
@@ -292,6 +295,7 @@ module _ {D : Type 0} (disk : Ghosts D) (law : Law disk) (gate now : GateFile) (
       spares = spares;
       written = λ tells. tt;
       slot = λ tells. tt;
+      cleared = λ tells. tt;
       any_moment = run;
       kept = λ tells. kept_words disk law gate.slot.family word old new tells (run tells);
       refused = unwritten_why own e why;

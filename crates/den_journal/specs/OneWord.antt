@@ -131,6 +131,7 @@ module _ {D : Type 0} (disk : Ghosts D) (family : Family) where
     pub spares : DiskTells disk old → SparesOthers family (disk.content old) (disk.content new)
     pub written : DiskTells disk old → OnOk result (IsOne word new)
     pub slot : DiskTells disk old → OnOk result (slot_of family (disk.content new).reading ≡ other_slot (slot_at_start family (disk.content old).reading))
+    pub cleared : DiskTells disk old → OnOk result ((disk.content new).reading (slot_at_start family (disk.content old).reading) ≡ [])
     pub any_moment : DiskTells disk old → Leaves disk.content disk.moment disk.images
         (λ t files. HasOne family word files ⊎ IsKept family (disk.images old (disk.moment old)) (disk.content old).reading files) old new
     pub kept : DiskTells disk old → (was : List (List ℕ)) → ((files : Files) → disk.images old (disk.moment old) files → HasWords family was files)

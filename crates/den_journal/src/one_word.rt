@@ -41,7 +41,8 @@ pub fn read_one<W: Word, D: Disk>(alloc: Global, disk: &mut D, family: Family) -
 }
 
 /// Makes a family's files one region, of this word, after a sync of all files; files that cannot be read are emptied
-/// first. A crash inside leaves the word that stood there, or this one, or none where the files could not be read. It
+/// first. It stands in the slot that was not in use, which is B where the files were emptied, and the other slot is empty
+/// then. A crash inside leaves the word that stood there, or this one, or none where the files could not be read. It
 /// takes no memory.
 pub fn write_one<D: Disk>(disk: &mut D, family: Family, word: Blob) -> Result<(), Error>
     ensures writes { WritesOne D.Disk family word disk.old disk.new result }

@@ -31,7 +31,7 @@ returns-in-Ok-rewrite g c =
     record {
       writes = subst (λ (f : Family). WritesOne D f {T = Unit {0}} c.args.word d0 d2 (Ok (tt {0}))) own
           (word_written D g.met.D.Disk.images_now gate c.rewrite.new.self c.args.word d0 d1 d2 (subst (λ (f : Family). Began D f gate d0 d1) (sym own) began) _
-          c.in-Ok-rewrite.ensures.writes c.in-Ok-rewrite.ensures.rewrites (tt {0}) c.in-Ok-rewrite.ensures.rests c.in-Ok-rewrite.ensures.rewritten.slot);
+          c.in-Ok-rewrite.ensures.writes c.in-Ok-rewrite.ensures.rewrites (tt {0}) c.in-Ok-rewrite.ensures.rests c.in-Ok-rewrite.ensures.rewritten.slot c.in-Ok-rewrite.ensures.rewritten.cleared);
     }
 
 pub returns : goal.returns
