@@ -16,12 +16,14 @@ use Rattle.den_snapshot.specs.Snapshots.{Taken, taken_of}
 use Rattle.den_snapshot.specs.Words.{snapshot_in, snapshot_word}
 use Rattle.den_snapshot.proofs.Giving.{snapshot_long}
 use Rattle.den_gate.specs.Slot.{room_for}
-use Rattle.den_journal.specs.Causes.{IsFullFor}
-use Rattle.den_journal.specs.OneWord.{HasOne, IsUnwritten, WritesOne, one_of}
+use Rattle.den_journal.specs.Causes.{IsFullAt, IsFullFor}
+use Rattle.den_journal.specs.OneWord.{GivesAsBefore, HasOne, IsUnwritten, WritesOne, one_of}
 use Rattle.den_journal.specs.Shown.{Shown, rewrite_size}
 use Rattle.den_journal.specs.Writes.{DiskTells, Faulted}
+use Rattle.den_gate.proofs.Alone.{Law}
 use Rattle.den_journal.proofs.Full.{full_of}
 use Rattle.den_journal.proofs.Moving.{goes_nowhere}
+use Rattle.den_journal.proofs.OneWord.{value_kept}
 use Rattle.den_state.specs.Snapshots.{Generates, HoldsSnapshot, IsUnstored, snapshot_of}
 
 -- ---- the files
@@ -74,6 +76,18 @@ heavy_for rose told files size most weight (error.UnorderedChunk index) within h
 heavy_for rose told files size most weight (error.Config place) within h = tt
 heavy_for rose told files size most weight error.StateMachineError within h = tt
 
+room_told : (rose told : Type 0) (files : Files) (size most : ℕ) (e : Error) → IsUnwritten rose told Snapshot files size most e → IsFullAt 0 size e
+room_told rose told files size most (error.DiskFull needed limit) h = h.room
+room_told rose told files size most error.OutOfMemory h = tt
+room_told rose told files size most error.StorageIoError h = tt
+room_told rose told files size most (error.DataCorruption place offset) h = tt
+room_told rose told files size most error.LinkFault h = tt
+room_told rose told files size most error.FeatureNotEnabled h = tt
+room_told rose told files size most error.ProposeFailed h = tt
+room_told rose told files size most (error.UnorderedChunk index) h = tt
+room_told rose told files size most (error.Config place) h = tt
+room_told rose told files size most error.StateMachineError h = tt
+
 -- no word is told from want of memory
 not_wanting : (rose told : Type 0) (files : Files) (size most : ℕ) (e : Error) → IsUnwritten rose told Snapshot files size most e → e ≡ error.OutOfMemory → ⊥
 not_wanting rose told files size most e h is = subst (IsUnwritten rose told Snapshot files size most) is h
@@ -81,18 +95,14 @@ not_wanting rose told files size most e h is = subst (IsUnwritten rose told Snap
 module _ {D : Type 0} (disk : Ghosts D) (was now : Shown MapState) (made : Taken) (same_value : now.value ≡ was.value) (same_weight : now.weight ≡ was.weight) (again : snapshot_in (snapshot_word made) ≡ Some made) where
   module _ (old new : D) where
     -- a crash finds what it found before, or the new word
-    kept_by : {T : Type 0} (r : Result T Error) → WritesOne disk Snapshot (snapshot_word made) old new r → DiskTells disk old → (stood : Taken)
-        → ((files : Files) → disk.images old (disk.moment old) files → HoldsSnapshot stood files)
-        → (t : ℕ) (files : Files) → disk.moment old ≤ t → t ≤ disk.moment new → disk.images new t files → HoldsSnapshot stood files ⊎ HoldsSnapshot made files
-    kept_by r w tells stood stands t files low high i =
-        let before = (w.images tells).each t files low high i in
-        let first = stands before.0 before.1 in
-        let read : snapshot_in (snapshot_word stood) ≡ Some stood = sym (one_read (snapshot_word stood) before.0 first.one) ∙ first.is in
-        ⊎_elim (λ h. inl (held_by stood files read h)) (λ h. inr (held_by made files again h))
-        (w.kept tells (snapshot_word stood ∷ []) (λ x image. (stands x image).one) t files low high i)
+    kept_by : {T : Type 0} → Law disk → (r : Result T Error) → WritesOne disk Snapshot (snapshot_word made) old new r → DiskTells disk old
+        → (t : ℕ) (files : Files) → disk.moment old ≤ t → t ≤ disk.moment new → disk.images new t files
+        → HoldsSnapshot made files ⊎ GivesAsBefore Snapshot snapshot_in (disk.images old (disk.moment old)) files
+    kept_by law r w tells t files low high i =
+        ⊎_elim (λ one. inl (held_by made files again one)) (λ same. inr same) (value_kept disk law Snapshot (snapshot_word made) snapshot_in old new r w tells t files low high i)
 
-    pub generated : {S T : Type 0} (x : S) (y : T) → now.ready → (DiskTells disk old → now.rests (disk.content new)) → WritesOne disk Snapshot (snapshot_word made) old new (Ok x) → Generates disk was now old new made (Ok y)
-    generated x y ready rests w = record {
+    pub generated : {S T : Type 0} → Law disk → (x : S) (y : T) → now.ready → (DiskTells disk old → now.rests (disk.content new)) → WritesOne disk Snapshot (snapshot_word made) old new (Ok x) → Generates disk was now old new made (Ok y)
+    generated law x y ready rests w = record {
       goes_on = w.goes_on;
       others = w.images;
       spares = w.spares;
@@ -104,16 +114,17 @@ module _ {D : Type 0} (disk : Ghosts D) (was now : Shown MapState) (made : Taken
         reading = λ tells. held_by made (disk.content new).reading again (w.written tells).reading;
         images = λ tells files i. held_by made files again ((w.written tells).images files i);
       };
-      kept = kept_by (Ok x) w;
+      kept = kept_by law (Ok x) w;
       cause = tt;
       full = tt;
       heavy = tt;
+      room = tt;
       untouched = tt;
       failed = tt;
     }
 
-    pub not_generated : {S T : Type 0} (e : Error) → (now.ready → ⊥) → length (snapshot_word made) ≤ was.weight → WritesOne disk Snapshot {T = S} (snapshot_word made) old new (Err e) → Generates disk was now old new {T = T} made (Err e)
-    not_generated e failed within w =
+    pub not_generated : {S T : Type 0} → Law disk → (e : Error) → (now.ready → ⊥) → length (snapshot_word made) ≤ was.weight → WritesOne disk Snapshot {T = S} (snapshot_word made) old new (Err e) → Generates disk was now old new {T = T} made (Err e)
+    not_generated law e failed within w =
         let size = length (snapshot_word made) in
         let limit = (disk.kind old).limit in
         let files = (disk.content new).reading in
@@ -124,10 +135,11 @@ module _ {D : Type 0} (disk : Ghosts D) (was now : Shown MapState) (made : Taken
           same_value = same_value;
           same_weight = same_weight;
           done = tt;
-          kept = kept_by (Err e) w;
+          kept = kept_by law (Err e) w;
           cause = unstored (Faulted disk old new) (DiskTells disk old) files size limit e w.refused;
           full = full_for (Faulted disk old new) (DiskTells disk old) files size limit was.weight e within w.refused;
           heavy = heavy_for (Faulted disk old new) (DiskTells disk old) files size limit was.weight e within w.refused;
+          room = room_told (Faulted disk old new) (DiskTells disk old) files size limit e w.refused;
           untouched = λ is. absurd (not_wanting (Faulted disk old new) (DiskTells disk old) files size limit e w.refused is);
           failed = λ _. failed;
         }
@@ -142,10 +154,11 @@ wanting disk was made d ready rests (Err e) is = record {
   same_value = refl;
   same_weight = refl;
   done = tt;
-  kept = λ tells stood stands t files low high i. inl (stands files (subst (λ k. disk.images d k files) (omega arith) i));
+  kept = λ tells t files low high i. inr (record { origin = files; was = subst (λ k. disk.images d k files) (omega arith) i; same = refl });
   cause = subst (IsUnstored (Faulted disk d d) (DiskTells disk d) (disk.kind d).limit) (sym is) tt;
   full = subst (IsFullFor (DiskTells disk d) Snapshot (disk.content d).reading was.weight (λ n. ⊥) (λ n. n ≡ length (snapshot_word made))) (sym is) tt;
   heavy = subst (IsHeavy (disk.kind d).limit was.weight) (sym is) tt;
+  room = subst (IsFullAt 0 (length (snapshot_word made))) (sym is) tt;
   untouched = λ _. record { same_disk = refl; same_value = refl; same_weight = refl; ready = ready; rests = rests };
   failed = λ other. absurd (other is);
 }

@@ -1,6 +1,7 @@
 -- What reading the files' snapshot leaves of a state machine, and what putting it in the map's place does.
-use Rattle.std.proofs.Common.{◌≡◌, ◌⊎◌, ◌≤◌, ◌+◌, ◌∙◌, inl, inr, ⊎_elim, ℕ, Bool, true, false, IsTrue, List, [], ◌∷◌, length, Option, Some, None, Result, Ok, Err, IfErr, refl, sym, ap, subst, arith}
+use Rattle.std.proofs.Common.{◌≡◌, ◌⊎◌, ◌≤◌, ◌<◌, ◌+◌, ◌∙◌, inl, inr, ⊎_elim, ℕ, Bool, true, false, IsTrue, List, [], ◌∷◌, length, Option, Some, None, Result, Ok, Err, IfErr, refl, sym, ap, subst, arith}
 use Rattle.std.specs.Prelude.{max, unwrap_or}
+use Rattle.std.specs.Result.{IsErrAnd}
 use Rattle.den_disk.specs.declared.disk.Disk.{Ghosts}
 use Rattle.den_disk.specs.declared.place.Family.TheVariants.{State, Snapshot}
 use Rattle.den_disk.specs.Place.{place_number}
@@ -31,7 +32,8 @@ use Rattle.den_journal.proofs.Seen.{more_full, more_heavy}
 use Rattle.den_state.specs.contracts.stored_map.StoredMapFolded.TheImpl.{ghosts}
 use Rattle.den_state.specs.declared.file_machine.FileStateMachine.{FileStateMachine}
 use Rattle.den_state.specs.declared.stored_map.StoredMap.{StoredMap}
-use Rattle.den_state.specs.Checkpoint.{IsCheckpointSize, Replaces}
+use Rattle.den_gate.specs.Gate.{payloads}
+use Rattle.den_state.specs.Checkpoint.{IsCheckpoint, IsCheckpointSize, Replaces}
 use Rattle.den_state.specs.Cleanup.{cleaned_where}
 use Rattle.den_state.specs.FileState.{map_held, state_lies, state_map, state_shown, stored_of}
 use Rattle.den_state.specs.Folds.{held_map}
@@ -64,6 +66,11 @@ installed_below leased moment last one other t m is le =
     let mark : m.mark.index ≡ (unwrap_or last one).index = ap (λ (x : MapState). x.mark.index) is ∙ ap (λ (p : LogId). p.index) (installed_mark leased moment (unwrap_or last one) t) in
     omega (arith, mark, later_of last one other le)
 
+-- few records follow the beginning of a map that was not put in the place, or was
+pub short_kept : (was now held : StoredMap) → (now ≡ was) ⊎ (now ≡ held) → held.tail ≡ 0 → was.tail < 1000 → now.tail < 1000
+short_kept was now held (inl same) none short = omega (arith, ap (λ (h : StoredMap). h.tail) same, short)
+short_kept was now held (inr same) none short = omega (arith, ap (λ (h : StoredMap). h.tail) same, none)
+
 -- ---- after a sync
 
 module _ {D : Type 0} (disk : Ghosts D) (s : FileStateMachine) (old new : D) (stands : StoreStands disk (state_shown s) old) (spares : DiskTells disk old → SparesAll (disk.content old) (disk.content new)) where
@@ -75,8 +82,8 @@ module _ {D : Type 0} (disk : Ghosts D) (s : FileStateMachine) (old new : D) (st
       → (DiskTells disk old → NoNewImages (disk.images old) (disk.images new) (disk.moment old) (disk.moment new)) → DiskTells disk old → Moves disk State map_held (s.journal.held.map ∷ []) old new
   left_moves image none tells = moves_not disk State map_held s.journal.held.map [] old new (λ told files i. state_lies.rests_hold told s (disk.content old) files stands.ready (stands.rests tells) (image files tells i)) (none tells) (spares tells)
 
-  pub left : IsLeft disk (state_shown s) (state_shown s) (state_map s) (state_map s) old new
-  left = record { same_value = refl; same_map = refl; same_weight = refl; ready = stands.ready; rests = rests_on }
+  pub left : (DiskTells disk old → NoNewImages (disk.images old) (disk.images new) (disk.moment old) (disk.moment new)) → IsLeft disk (state_shown s) (state_shown s) (state_map s) (state_map s) old new
+  left none = record { same_value = refl; same_map = refl; same_weight = refl; ready = stands.ready; rests = rests_on; spares = spares; images = none }
 
 -- ---- a snapshot that cannot be read
 
@@ -216,6 +223,10 @@ module _ {D : Type 0} (disk : Ghosts D) (s now : FileStateMachine) (old d new : 
     kept = tt;
   }
 
+  -- the slot in use has a checkpoint of it
+  pub installed_list : {T : Type 0} (x : T) → Replaces ghosts disk held s.journal now.journal d new (Ok x) → DiskTells disk old → IsCheckpoint now.journal.held.map (payloads now.journal.gate (disk.content new).reading)
+  installed_list x r tells = subst (λ (m : MapState). IsCheckpoint m (payloads now.journal.gate (disk.content new).reading)) (sym (ap (λ (v : Stored). v.map) r.done.value)) (r.done.list (on tells))
+
   pub not_installed : {S T : Type 0} (e : Error) → Replaces ghosts disk held s.journal now.journal d new {T = S} (Err e)
       → ((now.journal.held ≡ s.journal.held) × (now.applied ≡ s.applied)) ⊎ ((now.journal.held ≡ held) × (now.applied ≡ unwrap_or last s.applied))
       → Installs disk leased moment last (state_shown s) (state_shown now) (state_map s) (state_map now) old new {T = T} map_held (Err e)
@@ -239,3 +250,10 @@ module _ {D : Type 0} (disk : Ghosts D) (leased : Bool) (moment : ℕ) (last : O
     refused = refused;
     kept = inl (value, map);
   }
+
+  -- memory was wanting before the first write
+  pub wanting : {T : Type 0} (r : Result T Error) → IsErrAnd r (λ e. e ≡ error.OutOfMemory) → IsLeft disk (state_shown s) (state_shown now) (state_map s) (state_map now) old new
+      → Installs disk leased moment last (state_shown s) (state_shown now) (state_map s) (state_map now) old new map_held r
+  wanting (Ok x) is same = absurd is
+  wanting (Err e) is same =
+      not_found e (subst (IsUninstalled disk leased moment last (state_shown s) (state_shown now) (state_map s) (state_map now) old new (Unit {0})) (sym is) (inl same)) same.same_value same.same_map

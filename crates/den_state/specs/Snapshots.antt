@@ -4,7 +4,7 @@ use Rattle.den_disk.specs.declared.disk.Disk.{Ghosts}
 use Rattle.den_disk.specs.declared.place.Family.TheVariants.{State as state_family, Snapshot as snapshot_family}
 use Rattle.den_disk.specs.Place.{place_number}
 use Rattle.den_disk.specs.Files.{Files}
-use Rattle.den_disk.specs.Families.{SparesImages, SparesOthers}
+use Rattle.den_disk.specs.Families.{NoNewImages, SparesAll, SparesImages, SparesOthers}
 use Rattle.den_model.specs.declared.log_id.LogId.{LogId}
 use Rattle.den_model.specs.Image.{slot_of}
 use Rattle.den_model.specs.MapState.{MapState}
@@ -15,8 +15,8 @@ use Rattle.den_codec.specs.Full.{IsHeavy}
 use Rattle.den_map.specs.Leases.{has_expiry}
 use Rattle.den_snapshot.specs.Snapshots.{Taken, map_of}
 use Rattle.den_snapshot.specs.Words.{snapshot_in, snapshot_word}
-use Rattle.den_journal.specs.Causes.{IsFullFor}
-use Rattle.den_journal.specs.OneWord.{one_in, HasOne}
+use Rattle.den_journal.specs.Causes.{IsFullAt, IsFullFor}
+use Rattle.den_journal.specs.OneWord.{one_in, GivesAsBefore, HasOne}
 use Rattle.den_journal.specs.Shown.{Held, Shown}
 use Rattle.den_journal.specs.Writes.{DiskTells, Faulted, GoesOn, Moves, Untouched}
 use Rattle.den_state.specs.Checkpoint.{IsCheckpointSize}
@@ -80,8 +80,8 @@ module _ {D : Type 0} (disk : Ghosts D) where
       pub reading : DiskTells disk old → HoldsSnapshot made (disk.content new).reading
       pub images : DiskTells disk old → (files : Files) → disk.images new (disk.moment new) files → HoldsSnapshot made files
 
-    -- A call that stores this snapshot. The map and its files stay. A crash inside leaves the snapshot that stood there, or
-    -- this one. Want of memory changes nothing; any other refusal ends its use.
+    -- A call that stores this snapshot. The map and its files stay. A crash inside leaves this snapshot, or what
+    -- a crash before might have left, one or none. Want of memory changes nothing; any other refusal ends its use.
     pub record Generates {T : Type 0} (made : Taken) (result : Result T Error) : Type 0 where
       pub goes_on : GoesOn disk old new
       pub others : DiskTells disk old → SparesImages snapshot_family (disk.images old) (disk.images new) (disk.moment old) (disk.moment new)
@@ -89,11 +89,12 @@ module _ {D : Type 0} (disk : Ghosts D) where
       pub same_value : now.value ≡ was.value
       pub same_weight : now.weight ≡ was.weight
       pub done : OnOk result (IsStored made)
-      pub kept : DiskTells disk old → (stood : Taken) → ((files : Files) → disk.images old (disk.moment old) files → HoldsSnapshot stood files)
-          → (t : ℕ) (files : Files) → disk.moment old ≤ t → t ≤ disk.moment new → disk.images new t files → HoldsSnapshot stood files ⊎ HoldsSnapshot made files
+      pub kept : DiskTells disk old → (t : ℕ) (files : Files) → disk.moment old ≤ t → t ≤ disk.moment new → disk.images new t files
+          → HoldsSnapshot made files ⊎ GivesAsBefore snapshot_family snapshot_in (disk.images old (disk.moment old)) files
       pub cause : IfErr result (IsUnstored (Faulted disk old new) (DiskTells disk old) (disk.kind old).limit)
       pub full : IfErr result (IsFullFor (DiskTells disk old) snapshot_family (disk.content new).reading was.weight (λ n. ⊥) (λ n. n ≡ length (snapshot_word made)))
       pub heavy : IfErr result (IsHeavy (disk.kind old).limit was.weight)
+      pub room : IfErr result (IsFullAt 0 (length (snapshot_word made)))
       pub untouched : IfErr result (λ e. e ≡ OutOfMemory → Untouched disk was now old new)
       pub failed : IfErr result (λ e. (e ≡ OutOfMemory → ⊥) → now.ready → ⊥)
 
@@ -109,13 +110,15 @@ module _ {D : Type 0} (disk : Ghosts D) where
     pub taken : Taken
     pub found : IsFound leased old taken true
 
-  -- the map is as it was, and so is what its files give
+  -- the map and all files are as they were, and no image came that was none
   pub record IsLeft (was now : Shown MapState) (before after : MapState) (old new : D) : Type 0 where
     pub same_value : now.value ≡ was.value
     pub same_map : after ≡ before
     pub same_weight : now.weight ≡ was.weight
     pub ready : now.ready
     pub rests : DiskTells disk old → now.rests (disk.content new)
+    pub spares : DiskTells disk old → SparesAll (disk.content old) (disk.content new)
+    pub images : DiskTells disk old → NoNewImages (disk.images old) (disk.images new) (disk.moment old) (disk.moment new)
 
   module _ (leased : Bool) (moment : ℕ) (last : Option LogId) (was now : Shown MapState) (before after : MapState) (old new : D) where
     -- the map that the files' snapshot gives has taken the old one's place

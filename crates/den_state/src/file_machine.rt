@@ -138,6 +138,7 @@ impl FileStateMachine {
         ensures map { state_map self.new ≡ state_map self.old }
         ensures value { (state_shown self.new).value ≡ (state_shown self.old).value }
         ensures short { OnOk result (HasShortTail self.new) }
+        ensures short_kept { IfErr result (λ e. HasShortTail self.old → HasShortTail self.new) }
         ensures checkpoint { OnOk result (HoldsCheckpoint D.Disk self.new.journal.gate.slot disk.old disk.new (state_shown self.old).value) }
         ensures failed { IfErr result (λ e. (state_shown self.new).ready → ⊥) }
         ensures settings { state_settings self.new ≡ state_settings self.old }
@@ -259,7 +260,7 @@ impl FileStateMachine {
 }
 
 impl<D: Disk> StateMachine<D> for FileStateMachine {
-    ghost use Rattle.std.specs.Prelude.{◌&&◌, [], ◌∷◌, false, true, None, Some, Err, IfSome, IfOk, IfErr, IsOk, OnOk, length, max, refl};
+    ghost use Rattle.std.specs.Prelude.{◌&&◌, [], ◌∷◌, false, true, None, Some, Err, IfSome, IfOk, IfErr, IsOk, OnOk, length, max, replicate, refl};
     ghost use Rattle.std.specs.List.Sorted.{IsStrictlySortedBy};
     ghost use Rattle.den_disk.specs.declared.place.Family.TheVariants.{State as state_family};
     ghost use Rattle.den_model.specs.declared.journal.JournalRecord.TheVariants.{Cleanup};
@@ -279,6 +280,8 @@ impl<D: Disk> StateMachine<D> for FileStateMachine {
     ghost use Rattle.den_state.specs.Light.{weight_light};
     ghost use Rattle.den_state.specs.Machine.{Closes};
     ghost use Rattle.den_state.specs.Regions.{Adds, AddsOrRenews, HoldsCheckpoint};
+    ghost use Rattle.den_state.specs.Snapshots.{Generates, Installs};
+    ghost use Rattle.den_snapshot.specs.Snapshots.{taken_of};
 
     ghost shown = { state_shown };
 
@@ -425,6 +428,7 @@ impl<D: Disk> StateMachine<D> for FileStateMachine {
         ensures map { state_map self.new ≡ state_map self.old }
         ensures value { (state_shown self.new).value ≡ (state_shown self.old).value }
         ensures short { OnOk result (HasShortTail self.new) }
+        ensures short_kept { IfErr result (λ e. HasShortTail self.old → HasShortTail self.new) }
         ensures failed { IfErr result (λ e. (state_shown self.new).ready → ⊥) }
         ensures settings { state_settings self.new ≡ state_settings self.old }
         ensures checkpoint { OnOk result (HoldsCheckpoint D.Disk self.new.journal.gate.slot disk.old disk.new (state_shown self.old).value) }
@@ -441,6 +445,7 @@ impl<D: Disk> StateMachine<D> for FileStateMachine {
         ensures short { OnOk result (HasShortTail self.new) }
         ensures settings { OnOk result (state_settings self.new ≡ record (state_settings self.old) { metadata = None }) }
         ensures settings_kept { IfErr result (λ e. state_settings self.new ≡ state_settings self.old) }
+        ensures short_kept { IfErr result (λ e. HasShortTail self.old → HasShortTail self.new) }
         ensures checkpoint { OnOk result (HoldsCheckpoint D.Disk self.new.journal.gate.slot disk.old disk.new empty_map) }
     {
         let region = StateRegion::Begin { index: 0, term: 0 };
@@ -459,7 +464,16 @@ impl<D: Disk> StateMachine<D> for FileStateMachine {
         &mut self,
         disk: &mut D,
         last_included: LogId,
-    ) -> Result<Blob, Error> {
+    ) -> Result<Blob, Error>
+        requires stands { StoreStands D.Disk (state_shown self.old) disk.old }
+        ensures generates { Generates D.Disk (state_shown self.old) (state_shown self.new) disk.old disk.new (taken_of last_included (state_map self.old)) result }
+        ensures map { state_map self.new ≡ state_map self.old }
+        ensures checksum { IfOk result (λ checksum. checksum ≡ replicate 32 0) }
+        ensures settings { OnOk result (state_settings self.new ≡ record (state_settings self.old) { metadata = Some (record { last_included = Some last_included; checksum = replicate 32 0 }) }) }
+        ensures settings_kept { IfErr result (λ e. state_settings self.new ≡ state_settings self.old) }
+        ensures short { HasShortTail self.old → HasShortTail self.new }
+        ensures slot { self.new.journal.gate.slot ≡ self.old.journal.gate.slot }
+    {
         let checksum = Blob::of(self.alloc, &NO_CHECKSUM)?;
         let word = word_of(self.alloc, &self.journal.held().map, last_included)?;
         match write_one(disk, Family::Snapshot, word) {
@@ -484,7 +498,16 @@ impl<D: Disk> StateMachine<D> for FileStateMachine {
         disk: &mut D,
         metadata: &SnapshotMetadata,
         now: u64,
-    ) -> Result<(), Error> {
+    ) -> Result<(), Error>
+        requires stands { StoreStands D.Disk (state_shown self.old) disk.old }
+        ensures installs { Installs D.Disk (state_settings self.old).leased (max now 1) metadata.now.last_included (state_shown self.old) (state_shown self.new)
+            (state_map self.old) (state_map self.new) disk.old disk.new map_held result }
+        ensures settings { OnOk result (state_settings self.new ≡ record (state_settings self.old) { metadata = Some metadata.now }) }
+        ensures settings_kept { IfErr result (λ e. state_settings self.new ≡ state_settings self.old) }
+        ensures short { OnOk result (HasShortTail self.new) }
+        ensures short_kept { IfErr result (λ e. HasShortTail self.old → HasShortTail self.new) }
+        ensures checkpoint { OnOk result (HoldsCheckpoint D.Disk self.new.journal.gate.slot disk.old disk.new (state_shown self.new).value) }
+    {
         let snapshot = match self.find_snapshot(disk) {
             Ok(snapshot) => snapshot,
             Err(error) => return Err(error),

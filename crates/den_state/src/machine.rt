@@ -124,6 +124,7 @@ pub trait StateMachine<D: Disk>: Drop {
         ensures map { map self.new ≡ map self.old }
         ensures value { (shown self.new).value ≡ (shown self.old).value }
         ensures short { OnOk result (short self.new) }
+        ensures short_kept { IfErr result (λ e. short self.old → short self.new) }
         ensures failed { IfErr result (λ e. (shown self.new).ready → ⊥) }
         ensures settings { settings self.new ≡ settings self.old };
 
@@ -137,7 +138,8 @@ pub trait StateMachine<D: Disk>: Drop {
         ensures same { IfErr result (λ e. map self.new ≡ map self.old) }
         ensures short { OnOk result (short self.new) }
         ensures settings { OnOk result (settings self.new ≡ record (settings self.old) { metadata = None }) }
-        ensures settings_kept { IfErr result (λ e. settings self.new ≡ settings self.old) };
+        ensures settings_kept { IfErr result (λ e. settings self.new ≡ settings self.old) }
+        ensures short_kept { IfErr result (λ e. short self.old → short self.new) };
 
     /// Stores a snapshot: pairs and expiries under this mark, as the one word of the Snapshot family's files. Answers its
     /// checksum, 32 zeros: none is made. What was last said of a snapshot is this mark and checksum then. The map and its
@@ -171,7 +173,8 @@ pub trait StateMachine<D: Disk>: Drop {
             (map self.old) (map self.new) disk.old disk.new holds result }
         ensures settings { OnOk result (settings self.new ≡ record (settings self.old) { metadata = Some metadata.now }) }
         ensures settings_kept { IfErr result (λ e. settings self.new ≡ settings self.old) }
-        ensures short { OnOk result (short self.new) };
+        ensures short { OnOk result (short self.new) }
+        ensures short_kept { IfErr result (λ e. short self.old → short self.new) };
 
     /// Whether a refusal left it of no more use. It is opened anew then.
     fn is_failed(&self) -> bool

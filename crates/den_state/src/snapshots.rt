@@ -7,7 +7,7 @@ ghost use Rattle.den_snapshot.specs.Words.{snapshot_word, FitsSnapshot};
 ghost use Rattle.den_journal.specs.Writes.{DiskTells, GoesOn, Moves, StoreStands};
 ghost use Rattle.den_state.specs.Checkpoint.{Replaces};
 ghost use Rattle.den_state.specs.FileState.{map_held, state_map, state_settings, state_shown};
-ghost use Rattle.den_state.specs.Snapshots.{installed, is_fault, wants_lease, IsFound, IsUninstalled};
+ghost use Rattle.den_state.specs.Snapshots.{installed, is_fault, wants_lease, IsFound, IsLeft, IsUninstalled};
 
 use crate::FileStateMachine;
 use crate::checkpoint::commit_map;
@@ -86,9 +86,11 @@ impl FileStateMachine {
         ensures found { IfOk result (λ taken. IsFound D.Disk self.old.leased disk.old taken false) }
         ensures same { OnOk result (self.new ≡ self.old) }
         ensures rests { OnOk result (DiskTells D.Disk disk.old → (state_shown self.new).rests (D.content disk.new)) }
+        ensures left { OnOk result (IsLeft D.Disk (state_shown self.old) (state_shown self.new) (state_map self.old) (state_map self.new) disk.old disk.new) }
         ensures refused { (moment : ℕ) (last : Option LogId) → IfErr result (IsUninstalled D.Disk self.old.leased moment last
             (state_shown self.old) (state_shown self.new) (state_map self.old) (state_map self.new) disk.old disk.new map_held.told) }
         ensures value { (state_shown self.new).value ≡ (state_shown self.old).value }
+        ensures held { self.new.journal.held ≡ self.old.journal.held }
         ensures map { state_map self.new ≡ state_map self.old }
         ensures settings { state_settings self.new ≡ state_settings self.old }
     {

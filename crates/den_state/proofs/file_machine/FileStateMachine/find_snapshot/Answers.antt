@@ -12,7 +12,7 @@ pub returns-then-wants_lease-clause-refused : goal.returns-then-wants_lease-clau
 unfolding snapshot_in
 returns-then-wants_lease-clause-refused g c = λ moment last.
     let r = c.read_one.ensures.reads in (
-      left g.D.Disk c.args.self.now c.args.disk.now c.read_one.new.disk c.requires.stands r.spares,
+      left g.D.Disk c.args.self.now c.args.disk.now c.read_one.new.disk c.requires.stands r.spares r.images,
       record { taken = c.in-Ok.snapshot; found = record { there = λ tells. c.in-Ok.ensures.reads.value tells; wants = sym c.wants_lease.ensures ∙ c.if-wants_lease.true } },
     )
 
@@ -40,4 +40,9 @@ unfolding snapshot_in
 returns-else-is_fault-clause-refused g c = λ moment last.
     let s = c.args.self.now in
     unread g.D.Disk s.leased moment last s s c.args.disk.now c.read_one.new.disk c.in-Err.error (sym c.is_fault.ensures ∙ c.if-is_fault.false) c.in-Err.ensures.reads.refused
-    (left g.D.Disk s c.args.disk.now c.read_one.new.disk c.requires.stands c.read_one.ensures.reads.spares)
+    (left g.D.Disk s c.args.disk.now c.read_one.new.disk c.requires.stands c.read_one.ensures.reads.spares c.read_one.ensures.reads.images)
+
+pub returns-else-wants_lease-clause-left : goal.returns-else-wants_lease-clause-left
+returns-else-wants_lease-clause-left g c =
+    let r = c.read_one.ensures.reads in
+    left g.D.Disk c.args.self.now c.args.disk.now c.read_one.new.disk c.requires.stands r.spares r.images

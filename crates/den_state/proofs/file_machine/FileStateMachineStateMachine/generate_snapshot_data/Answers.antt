@@ -33,7 +33,7 @@ returns-in-Ok-clause-generates g c =
     let word : c.in_ok-word.word ≡ snapshot_word made = c.in_ok-word.ensures.word ∙ ap (λ (t : Taken). snapshot_word t) over in
     let fits : FitsSnapshot made = subst (λ (t : Taken). FitsSnapshot t) over c.in_ok-word.ensures.fits in
     let w = subst (λ (x : List ℕ). WritesOne g.D.Disk Snapshot x d new (Ok c.in-Ok.field-0)) word c.in-Ok.ensures.writes in
-    generated g.D.Disk (state_shown s) (state_shown s) made refl refl (snapshot_again made fits) d new c.in-Ok.field-0 _ c.requires.stands.ready
+    generated g.D.Disk (state_shown s) (state_shown s) made refl refl (snapshot_again made fits) d new g.met.D.Disk.images_now c.in-Ok.field-0 _ c.requires.stands.ready
     (λ tells. state_lies.rests_own s (g.D.Disk.content d) (g.D.Disk.content new) (others_own State Snapshot (g.D.Disk.content d) (g.D.Disk.content new) (λ e. absurd (cc e)) (w.spares tells)) (c.requires.stands.rests tells)) w
 
 pub returns-in-Err-clause-generates : goal.returns-in-Err-clause-generates
@@ -47,5 +47,5 @@ returns-in-Err-clause-generates g c =
     let fits : FitsSnapshot made = subst (λ (t : Taken). FitsSnapshot t) over c.in_ok-word.ensures.fits in
     let w = subst (λ (x : List ℕ). WritesOne g.D.Disk Snapshot x d new (Err c.in-Err.error)) word c.in-Err.ensures.writes in
     not_generated g.D.Disk (state_shown s) _ made (ap (λ (h : StoredMap). h.map) c.give_up.ensures.held)
-    (λ i. max (c.give_up.ensures.gate i).end (rewrite_size (pairs_size (c.give_up.ensures.held i).map.pairs))) (snapshot_again made fits) d new c.in-Err.error
+    (λ i. max (c.give_up.ensures.gate i).end (rewrite_size (pairs_size (c.give_up.ensures.held i).map.pairs))) (snapshot_again made fits) d new g.met.D.Disk.images_now c.in-Err.error
     (λ ready. let never : ◌≡◌ {A = _} true false = sym c.give_up.ensures.unready ∙ ready.0 in absurd (cc never)) (word_within s.journal.gate.end c.args.last_included s.journal.held.map) w
