@@ -39,7 +39,7 @@ use Rattle.den_state.specs.FileState.{map_held, state_lies, state_map, state_sho
 use Rattle.den_state.specs.Folds.{held_map}
 use Rattle.den_state.specs.Light.{cleaned_pairs}
 use Rattle.den_state.specs.Stored.{Stored}
-use Rattle.den_state.specs.Snapshots.{Installs, IsFound, IsFullOfMap, IsInstalled, IsLeft, IsPut, IsUninstalled, installed, installed_values, is_fault, snapshot_of}
+use Rattle.den_state.specs.Snapshots.{Installs, IsFound, IsFullOfMap, IsInstalled, IsLeft, IsPut, IsUninstalled, installed, installed_value, installed_values, is_fault, snapshot_of}
 
 -- ---- the map under another mark
 
@@ -107,10 +107,9 @@ module _ {D : Type 0} (disk : Ghosts D) (leased : Bool) (moment : ℕ) (last : O
 
 -- ---- what a crash may find
 
-module _ {D : Type 0} (disk : Ghosts D) (leased : Bool) (moment : ℕ) (mark : LogId) (v : MapState) (old new : D) where
-  -- the old map alone
-  pub moves_first : (o : Option Taken) → Moves disk State map_held (v ∷ []) old new → Moves disk State map_held (v ∷ installed_values leased moment mark o) old new
-  moves_first o moves = record { own = λ told t files low high i. first_of v (installed_values leased moment mark o) (map_held.of files) (moves.own told t files low high i); others = moves.others; spares = moves.spares }
+-- the old map alone
+pub moves_first : {D : Type 0} (disk : Ghosts D) (v : MapState) (vs : List MapState) (old new : D) → Moves disk State map_held (v ∷ []) old new → Moves disk State map_held (v ∷ vs) old new
+moves_first disk v vs old new moves = record { own = λ told t files low high i. first_of v vs (map_held.of files) (moves.own told t files low high i); others = moves.others; spares = moves.spares }
 
 -- ---- the snapshot's map in the old one's place
 
@@ -155,19 +154,33 @@ module _ {D : Type 0} (disk : Ghosts D) (s now : FileStateMachine) (old d new : 
   one_of_two o there x h =
       subst (λ (p : Option Taken). IsOneOf (s.journal.held.map ∷ installed_values leased moment (unwrap_or last s.journal.held.map.mark) p) x) (sym there) (⊎_elim (λ a. inl a) (λ b. inr (inr b)) h)
 
-  moves_both : GoesOn disk d new → (DiskTells disk d → Moves disk State (journal_held ghosts) (stored_of s ∷ ghosts.renewed (ghosts.value held) ∷ []) d new) → DiskTells disk old
-      → Moves disk State map_held (s.journal.held.map ∷ installed_values leased moment (unwrap_or last s.journal.held.map.mark) (snapshot_of (disk.content old).reading)) old new
-  moves_both then second tells =
+  one_of_one : (o : Option Taken) → o ≡ Some t → (x : Option MapState) → IsOneOf (s.journal.held.map ∷ new_map ∷ []) x
+      → IsOneOf (s.journal.held.map ∷ installed_value leased moment (unwrap_or last s.journal.held.map.mark) o) x
+  one_of_one o there x h = subst (λ (p : Option Taken). IsOneOf (s.journal.held.map ∷ installed_value leased moment (unwrap_or last s.journal.held.map.mark) p) x) (sym there) h
+
+  moves_both : (vs : List MapState) → ((x : Option MapState) → IsOneOf (s.journal.held.map ∷ new_map ∷ []) x → IsOneOf (s.journal.held.map ∷ vs) x) → GoesOn disk d new
+      → (DiskTells disk d → Moves disk State (journal_held ghosts) (stored_of s ∷ ghosts.renewed (ghosts.value held) ∷ []) d new) → DiskTells disk old → Moves disk State map_held (s.journal.held.map ∷ vs) old new
+  moves_both vs widen then second tells =
       let moves = second (on tells) in
-      let o = snapshot_of (disk.content old).reading in
-      let vs = s.journal.held.map ∷ installed_values leased moment (unwrap_or last s.journal.held.map.mark) o in
-      moves_joined goes then tells (s.journal.held.map ∷ []) (s.journal.held.map ∷ new_map ∷ []) vs
-      (λ x h. first_of s.journal.held.map (installed_values leased moment (unwrap_or last s.journal.held.map.mark) o) x h) (λ x h. one_of_two o (found.there tells) x h) (first tells)
+      moves_joined goes then tells (s.journal.held.map ∷ []) (s.journal.held.map ∷ new_map ∷ []) (s.journal.held.map ∷ vs) (λ x h. first_of s.journal.held.map vs x h) widen (first tells)
       (record {
         own = λ told u files low high i. ⊎_elim (λ h. inl (held_map files (stored_of s) h)) (λ h. inr (held_map files (record { map = held.map; tail = 0 }) h ∙ ap (λ (m : MapState). Some m) is)) (moves.own tt u files low high i);
         others = moves.others;
         spares = moves.spares;
       })
+
+  moves_all : GoesOn disk d new → (DiskTells disk d → Moves disk State (journal_held ghosts) (stored_of s ∷ ghosts.renewed (ghosts.value held) ∷ []) d new) → DiskTells disk old
+      → Moves disk State map_held (s.journal.held.map ∷ installed_values leased moment (unwrap_or last s.journal.held.map.mark) (snapshot_of (disk.content old).reading)) old new
+  moves_all then second tells =
+      let o = snapshot_of (disk.content old).reading in
+      moves_both (installed_values leased moment (unwrap_or last s.journal.held.map.mark) o) (λ x h. one_of_two o (found.there tells) x h) then second tells
+
+  -- a crash finds the old map or the new one
+  pub moves_put : {T : Type 0} (r : Result T Error) → Replaces ghosts disk held s.journal now.journal d new r → DiskTells disk old
+      → Moves disk State map_held (s.journal.held.map ∷ installed_value leased moment (unwrap_or last s.journal.held.map.mark) (snapshot_of (disk.content old).reading)) old new
+  moves_put r replaced tells =
+      let o = snapshot_of (disk.content old).reading in
+      moves_both (installed_value leased moment (unwrap_or last s.journal.held.map.mark) o) (λ x h. one_of_one o (found.there tells) x h) replaced.goes_on replaced.moves tells
 
   put : now.journal.held.map ≡ held.map → now.applied ≡ unwrap_or last s.applied → IsPut disk leased moment last (state_shown s) (state_shown now) (state_map s) (state_map now) old new
   put same applied = record {
@@ -212,7 +225,7 @@ module _ {D : Type 0} (disk : Ghosts D) (s now : FileStateMachine) (old d new : 
   unfolding put
   installs x y applied r = record {
     goes_on = goes_then disk old d new goes r.goes_on;
-    moves = moves_both r.goes_on r.moves;
+    moves = moves_all r.goes_on r.moves;
     done = record {
       put = put (ap (λ (v : Stored). v.map) r.done.value) applied;
       weight = at_most _ _ _ r.done.weight (within leased moment (unwrap_or last s.journal.held.map.mark) t held.map s.journal.gate.end (pairs_size s.journal.held.map.pairs) is);
@@ -232,7 +245,7 @@ module _ {D : Type 0} (disk : Ghosts D) (s now : FileStateMachine) (old d new : 
       → Installs disk leased moment last (state_shown s) (state_shown now) (state_map s) (state_map now) old new {T = T} map_held (Err e)
   not_installed e r kept = record {
     goes_on = goes_then disk old d new goes r.goes_on;
-    moves = moves_both r.goes_on r.moves;
+    moves = moves_all r.goes_on r.moves;
     done = tt;
     refused = failing e r;
     kept = ⊎_elim (λ k. inl (ap (λ (h : StoredMap). h.map) k.0, λ i. record (k.0 i).map { mark = k.1 i })) (λ k. inr (put (ap (λ (h : StoredMap). h.map) k.0) k.1)) kept;
@@ -245,7 +258,7 @@ module _ {D : Type 0} (disk : Ghosts D) (leased : Bool) (moment : ℕ) (last : O
       → Installs disk leased moment last (state_shown s) (state_shown now) (state_map s) (state_map now) old new {T = T} map_held (Err e)
   not_found e refused value map = record {
     goes_on = goes;
-    moves = λ tells. moves_first disk leased moment (unwrap_or last s.journal.held.map.mark) s.journal.held.map old new (snapshot_of (disk.content old).reading) (first tells);
+    moves = λ tells. moves_first disk s.journal.held.map (installed_values leased moment (unwrap_or last s.journal.held.map.mark) (snapshot_of (disk.content old).reading)) old new (first tells);
     done = tt;
     refused = refused;
     kept = inl (value, map);

@@ -44,6 +44,11 @@ abbrev pub installed_values : Bool → ℕ → LogId → Option Taken → List M
 installed_values leased moment mark None = []
 installed_values leased moment mark (Some t) = map_of mark t ∷ installed leased moment mark t ∷ []
 
+-- the one that a crash may find there where the snapshot's is written after its cleanup alone
+abbrev pub installed_value : Bool → ℕ → LogId → Option Taken → List MapState
+installed_value leased moment mark None = []
+installed_value leased moment mark (Some t) = installed leased moment mark t ∷ []
+
 -- a fault of the disk
 abbrev pub is_fault : Error → Bool
 is_fault StorageIoError = true

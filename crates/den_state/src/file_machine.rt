@@ -260,7 +260,7 @@ impl FileStateMachine {
 }
 
 impl<D: Disk> StateMachine<D> for FileStateMachine {
-    ghost use Rattle.std.specs.Prelude.{◌&&◌, [], ◌∷◌, false, true, None, Some, Err, IfSome, IfOk, IfErr, IsOk, OnOk, length, max, replicate, refl};
+    ghost use Rattle.std.specs.Prelude.{◌&&◌, [], ◌∷◌, false, true, None, Some, Err, IfSome, IfOk, IfErr, IsOk, OnOk, length, max, replicate, unwrap_or, refl};
     ghost use Rattle.std.specs.List.Sorted.{IsStrictlySortedBy};
     ghost use Rattle.den_disk.specs.declared.place.Family.TheVariants.{State as state_family};
     ghost use Rattle.den_model.specs.declared.journal.JournalRecord.TheVariants.{Cleanup};
@@ -271,8 +271,9 @@ impl<D: Disk> StateMachine<D> for FileStateMachine {
     ghost use Rattle.den_lease.specs.Due.{has_due};
     ghost use Rattle.den_map.specs.Journal.{all_recorded};
     ghost use Rattle.den_journal.specs.Causes.{IsOfDisk};
-    ghost use Rattle.den_journal.specs.Writes.{StoreStands, Writes};
+    ghost use Rattle.den_journal.specs.Writes.{DiskTells, Moves, StoreStands, Writes};
     ghost use Rattle.den_state.specs.Changes.{chunk_change, cleanup_change, mark_change, reset_change};
+    ghost use Rattle.den_state.specs.Snapshots.{Generates, Installs, installed_value, snapshot_of};
     ghost use Rattle.den_state.specs.Checkpoint.{renew_change};
     ghost use Rattle.den_state.specs.Chunk.{refusal_of_chunk};
     ghost use Rattle.den_state.specs.Cleanup.{cleaned_where, removed_where};
@@ -280,7 +281,6 @@ impl<D: Disk> StateMachine<D> for FileStateMachine {
     ghost use Rattle.den_state.specs.Light.{weight_light};
     ghost use Rattle.den_state.specs.Machine.{Closes};
     ghost use Rattle.den_state.specs.Regions.{Adds, AddsOrRenews, HoldsCheckpoint};
-    ghost use Rattle.den_state.specs.Snapshots.{Generates, Installs};
     ghost use Rattle.den_snapshot.specs.Snapshots.{taken_of};
 
     ghost shown = { state_shown };
@@ -506,6 +506,8 @@ impl<D: Disk> StateMachine<D> for FileStateMachine {
         ensures settings_kept { IfErr result (λ e. state_settings self.new ≡ state_settings self.old) }
         ensures short { OnOk result (HasShortTail self.new) }
         ensures short_kept { IfErr result (λ e. HasShortTail self.old → HasShortTail self.new) }
+        ensures crash { DiskTells D.Disk disk.old → Moves D.Disk state_family map_held ((state_shown self.old).value ∷ installed_value (state_settings self.old).leased (max now 1)
+            (unwrap_or metadata.now.last_included (state_shown self.old).value.mark) (snapshot_of (D.content disk.old).reading)) disk.old disk.new }
         ensures checkpoint { OnOk result (HoldsCheckpoint D.Disk self.new.journal.gate.slot disk.old disk.new (state_shown self.new).value) }
     {
         let snapshot = match self.find_snapshot(disk) {

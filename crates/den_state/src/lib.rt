@@ -28,8 +28,8 @@
 //!    the slot that is not in use; until its commit the other one stands (`IsWriting`, `Steps`), and from then on no record
 //!    follows its beginning (`short`).
 //! 7. A crash inside a call that stores a snapshot leaves the one that stood there, or the new one: `kept` of `Generates`. A
-//!    crash inside one that puts it in the map's place leaves the old map or the new one after its cleanup: `Installs`
-//!    (specs/Snapshots.antt). A snapshot that is carried to another server gives the same map there:
+//!    crash inside one that puts it in the map's place leaves the old map or the new one after its cleanup: `crash` of
+//!    `FileStateMachine::apply_snapshot_from_file`. A snapshot that is carried to another server gives the same map there:
 //!    `snapshots_are_carried`.
 //! 8. The applied mark moves with the map, or not at all: `kept` of `put`.
 //!
