@@ -7,6 +7,8 @@ mod disk;
 #[cfg(test)]
 mod gate;
 #[cfg(test)]
+mod host;
+#[cfg(test)]
 mod lease;
 #[cfg(test)]
 mod one_word;
