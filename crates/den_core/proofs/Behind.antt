@@ -12,7 +12,7 @@ use Rattle.den_model.specs.Entries.{LogEntry}
 use Rattle.den_model.specs.Grown.{appended, IsPurgedUpTo}
 use Rattle.den_model.specs.Kv.{Durable, Kv}
 use Rattle.den_model.specs.Log.{Log}
-use Rattle.den_core.specs.Making.{Changes, Makes, Says, Seen}
+use Rattle.den_core.specs.Making.{ChangesStores, Makes, Says, Seen}
 use Rattle.den_core.specs.Refusals.{FailsOrStays}
 use Rattle.den_core.specs.Spared.{SparesFamily}
 use Rattle.den_core.proofs.GoesOn.{disk_twice}
@@ -38,7 +38,7 @@ left_then (Config place) failed untouched written other more fails still wrote l
 left_then StateMachineError failed untouched written other more fails still wrote left = fails
 
 module _ {D : Type 0} (disk : Ghosts D) (was mid now : Seen) (old between new : D) (says : Says) (to : Durable) (entries : List LogEntry) (sizes : PayloadSizes) (rise more : ℕ) {T : Type 0} (x : T)
-    (one : Changes disk was mid old between says to entries sizes rise (Ok x)) (exact : mid.log ≡ appended was.log entries) where
+    (one : ChangesStores disk was mid old between says to entries sizes rise (Ok x)) (exact : mid.log ≡ appended was.log entries) where
   tells_then : DiskTells disk old → DiskTells disk between
   tells_then told = subst (λ (k : Kind). IsTrue k.tells) (sym one.goes_on.same) told
 
@@ -57,7 +57,7 @@ module _ {D : Type 0} (disk : Ghosts D) (was mid now : Seen) (old between new : 
         (stood says.holds (disk.images new) (disk.moment between) (disk.moment new) mid.kv (two.survives (tells_then told) held)))
 
   -- it was made
-  pub changes_then : {U V : Type 0} (y : U) (z : V) (short : (most needed : ℕ) → Files → Type 0) → Makes disk mid now between new says [] more short (now.log ≡ mid.log) (Ok y) → Changes disk was now old new says to entries sizes (rise + more) (Ok z)
+  pub changes_then : {U V : Type 0} (y : U) (z : V) (short : (most needed : ℕ) → Files → Type 0) → Makes disk mid now between new says [] more short (now.log ≡ mid.log) (Ok y) → ChangesStores disk was now old new says to entries sizes (rise + more) (Ok z)
   changes_then y z short two = record {
     goes_on = both_go_on (Ok y) short two;
     snapshot = both_spare (Ok y) short two;
@@ -75,7 +75,7 @@ module _ {D : Type 0} (disk : Ghosts D) (was mid now : Seen) (old between new : 
 
   -- it was refused, with all that was changed
   pub changes_refused : {U V : Type 0} (e : Error) (r : Result V Error) (few : PayloadSizes) → AreAmong few sizes → IsErrAnd r (λ y. y ≡ e) → 1 ≤ length entries → now.failed → Makes disk mid now between new {T = U} says [] more (IsSlotTooShort few) (now.log ≡ mid.log) (Err e)
-      → Changes disk was now old new says to entries sizes (rise + more) r
+      → ChangesStores disk was now old new says to entries sizes (rise + more) r
   changes_refused e r few among exit some failed two = record {
     goes_on = both_go_on (Err e) (IsSlotTooShort few) two;
     snapshot = both_spare (Err e) (IsSlotTooShort few) two;

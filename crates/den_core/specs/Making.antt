@@ -111,7 +111,7 @@ module _ {D : Type 0} (disk : Ghosts D) where
 
     -- A call that makes this durable part and appends these entries, by payloads of these sizes. A crash inside
     -- leaves the old part or the new one. The snapshot's files are left alone.
-    pub record Changes {T : Type 0} (says : Says) (to : Durable) (entries : List LogEntry) (sizes : PayloadSizes) (rise : ℕ) (result : Result T Error) : Type 0 where
+    pub record ChangesStores {T : Type 0} (says : Says) (to : Durable) (entries : List LogEntry) (sizes : PayloadSizes) (rise : ℕ) (result : Result T Error) : Type 0 where
       pub goes_on : GoesOn disk old new
       pub snapshot : DiskTells disk old → SparesFamily snapshot_family disk.content disk.moment disk.images old new
       pub same_most : now.most ≡ was.most

@@ -8,7 +8,7 @@ ghost use Rattle.den_model.specs.Log.{changed, floor, last_index};
 ghost use Rattle.den_model.specs.declared.region.LogRegion.TheVariants.{Append};
 ghost use Rattle.den_model.specs.Step.{answer, has_ttl, next_entry};
 ghost use Rattle.den_core.specs.Full.{IsSlotTooShort};
-ghost use Rattle.den_core.specs.Making.{CanGoOn, Changes, LogIsShort, Makes};
+ghost use Rattle.den_core.specs.Making.{CanGoOn, ChangesStores, LogIsShort, Makes};
 ghost use Rattle.den_core.specs.Parts.{durable_of, kv_of, raised_of, vote_of, HasFailed, IsCaughtUp, IsPlain, IsReady, AllRest};
 ghost use Rattle.den_core.specs.PayloadSizes.{entry_sizes, hard_state_sizes, map_of, trim_sizes};
 ghost use Rattle.den_core.specs.Trimmed.{logged_after, mark_of, trimmed};
@@ -110,7 +110,7 @@ fn raise<D: Disk, G: LogStore<D>, T: MetaStore<D>, M: StateMachine<D>>(
         (G.shown engine.old.log).value (M.map engine.old.state) engine.old.running }
     requires rests { IsTrue (D.kind disk.old).tells → (⟦<Engine<G, T, M> as Stepper<D>>⟧.seen engine.old).rests (D.content disk.old) }
     requires room { term_of (T.shown engine.old.meta).value < 2 ^ 64 - 1 }
-    ensures makes { Changes D.Disk (⟦<Engine<G, T, M> as Stepper<D>>⟧.seen engine.old) (⟦<Engine<G, T, M> as Stepper<D>>⟧.seen engine.new) disk.old disk.new ⟦<Engine<G, T, M> as Stepper<D>>⟧.says
+    ensures makes { ChangesStores D.Disk (⟦<Engine<G, T, M> as Stepper<D>>⟧.seen engine.old) (⟦<Engine<G, T, M> as Stepper<D>>⟧.seen engine.new) disk.old disk.new ⟦<Engine<G, T, M> as Stepper<D>>⟧.says
         (durable_of (Some (raised_of engine.old.running (T.shown engine.old.meta).value)) (M.map engine.old.state)) []
         (hard_state_sizes (raised_of engine.old.running (T.shown engine.old.meta).value)) raise_rise result }
     ensures raised { OnOk result ((T.shown engine.new.meta).value ≡ Some (raised_of engine.old.running (T.shown engine.old.meta).value)) }
@@ -141,7 +141,7 @@ fn commit<D: Disk, G: LogStore<D>, T: MetaStore<D>, M: StateMachine<D>>(
     requires room { (M.map engine.old.state).mark.index < 2 ^ 64 - 1 }
     requires time { 1 ≤ time }
     requires no_ttl { has_ttl command ≡ false }
-    ensures makes { Changes D.Disk (⟦<Engine<G, T, M> as Stepper<D>>⟧.seen engine.old) (⟦<Engine<G, T, M> as Stepper<D>>⟧.seen engine.new) disk.old disk.new ⟦<Engine<G, T, M> as Stepper<D>>⟧.says
+    ensures makes { ChangesStores D.Disk (⟦<Engine<G, T, M> as Stepper<D>>⟧.seen engine.old) (⟦<Engine<G, T, M> as Stepper<D>>⟧.seen engine.new) disk.old disk.new ⟦<Engine<G, T, M> as Stepper<D>>⟧.says
         (applied (⟦<Engine<G, T, M> as Stepper<D>>⟧.seen engine.old).kv.durable (next_entry (⟦<Engine<G, T, M> as Stepper<D>>⟧.seen engine.old).kv time command))
         (next_entry (⟦<Engine<G, T, M> as Stepper<D>>⟧.seen engine.old).kv time command ∷ [])
         (entry_sizes (⟦<Engine<G, T, M> as Stepper<D>>⟧.seen engine.old).most (⟦<Engine<G, T, M> as Stepper<D>>⟧.seen engine.old).log (map_of (⟦<Engine<G, T, M> as Stepper<D>>⟧.seen engine.old).kv.durable) (next_entry (⟦<Engine<G, T, M> as Stepper<D>>⟧.seen engine.old).kv time command ∷ [])) (commit_rise command) result }
@@ -213,7 +213,7 @@ fn commit_and_trim<D: Disk, G: LogStore<D>, T: MetaStore<D>, M: StateMachine<D>>
     requires room { (M.map engine.old.state).mark.index < 2 ^ 64 - 1 }
     requires time { 1 ≤ time }
     requires no_ttl { has_ttl command ≡ false }
-    ensures makes { Changes D.Disk (⟦<Engine<G, T, M> as Stepper<D>>⟧.seen engine.old) (⟦<Engine<G, T, M> as Stepper<D>>⟧.seen engine.new) disk.old disk.new ⟦<Engine<G, T, M> as Stepper<D>>⟧.says
+    ensures makes { ChangesStores D.Disk (⟦<Engine<G, T, M> as Stepper<D>>⟧.seen engine.old) (⟦<Engine<G, T, M> as Stepper<D>>⟧.seen engine.new) disk.old disk.new ⟦<Engine<G, T, M> as Stepper<D>>⟧.says
         (applied (⟦<Engine<G, T, M> as Stepper<D>>⟧.seen engine.old).kv.durable (next_entry (⟦<Engine<G, T, M> as Stepper<D>>⟧.seen engine.old).kv time command))
         (next_entry (⟦<Engine<G, T, M> as Stepper<D>>⟧.seen engine.old).kv time command ∷ [])
         (entry_sizes (⟦<Engine<G, T, M> as Stepper<D>>⟧.seen engine.old).most (⟦<Engine<G, T, M> as Stepper<D>>⟧.seen engine.old).log (map_of (⟦<Engine<G, T, M> as Stepper<D>>⟧.seen engine.old).kv.durable) (next_entry (⟦<Engine<G, T, M> as Stepper<D>>⟧.seen engine.old).kv time command ∷ [])) (write_rise command) result }
@@ -241,7 +241,7 @@ fn answer<D: Disk, G: LogStore<D>, T: MetaStore<D>, M: StateMachine<D>>(
 ) -> Result<Reply, Error>
     requires stands { CanGoOn D.Disk (⟦<Engine<G, T, M> as Stepper<D>>⟧.seen engine.old) disk.old }
     requires time { 1 ≤ time }
-    ensures makes { Changes D.Disk (⟦<Engine<G, T, M> as Stepper<D>>⟧.seen engine.old) (⟦<Engine<G, T, M> as Stepper<D>>⟧.seen engine.new) disk.old disk.new ⟦<Engine<G, T, M> as Stepper<D>>⟧.says
+    ensures makes { ChangesStores D.Disk (⟦<Engine<G, T, M> as Stepper<D>>⟧.seen engine.old) (⟦<Engine<G, T, M> as Stepper<D>>⟧.seen engine.new) disk.old disk.new ⟦<Engine<G, T, M> as Stepper<D>>⟧.says
         (answer (⟦<Engine<G, T, M> as Stepper<D>>⟧.seen engine.old).kv time frame).after.durable (answer (⟦<Engine<G, T, M> as Stepper<D>>⟧.seen engine.old).kv time frame).logged
         (entry_sizes (⟦<Engine<G, T, M> as Stepper<D>>⟧.seen engine.old).most (⟦<Engine<G, T, M> as Stepper<D>>⟧.seen engine.old).log (map_of (⟦<Engine<G, T, M> as Stepper<D>>⟧.seen engine.old).kv.durable) (answer (⟦<Engine<G, T, M> as Stepper<D>>⟧.seen engine.old).kv time frame).logged) (frame_rise frame) result }
     ensures answered { IfOk result (λ reply. answer (⟦<Engine<G, T, M> as Stepper<D>>⟧.seen engine.old).kv time frame ≡ record {

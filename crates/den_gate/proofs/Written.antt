@@ -14,7 +14,7 @@ use Rattle.den_model.specs.Regions.{Region, with_region, regions_behind, regions
 use Rattle.den_model.proofs.Cut.{size_again, with_regions, regions_written, regions_closed}
 use Rattle.den_gate.specs.Slot.{payloads_in, payloads_or_none, payloads_of, Holds, Staged, Begins, IsRegion, IsCutShort}
 use Rattle.den_gate.specs.Steps.{IsOpen}
-use Rattle.den_gate.specs.Loading.{payload_at}
+use Rattle.den_gate.specs.Loading.{payload_between}
 
 pub length-word : (n : ℕ) → length (u64_word n) ≡ 8
 unfolding u64_word
@@ -181,12 +181,12 @@ begins_pushed ps qs at next taken payload file b r is pushed =
     subst (λ (l : List (List ℕ)). Begins l next file) (sym (pushed ∙ ap (λ (p : List ℕ). ps ++ p ∷ []) is)) (begins_more ps at next payload file b r)
 
 -- the field behind an open gate, and the payload that it tells
-pub region_at : (at : ℕ) (file field : List ℕ) (n : ℕ) → at + 9 + n ≤ length file → get_or file at 0 ≡ 1 → field ≡ take 8 (drop (at + 1) file) → u64_word n ≡ field → IsRegion at (at + 9 + n) (payload_at at (at + 9 + n) file) file
+pub region_at : (at : ℕ) (file field : List ℕ) (n : ℕ) → at + 9 + n ≤ length file → get_or file at 0 ≡ 1 → field ≡ take 8 (drop (at + 1) file) → u64_word n ≡ field → IsRegion at (at + 9 + n) (payload_between at (at + 9 + n) file) file
 region_at at file field n fits is_open read back =
     let rest = drop (at + 1) file in
     let left : at + 9 + n - (at + 9) ≡ n = omega arith in
     let nine : drop 8 rest ≡ drop (at + 9) file = drop-drop 8 (at + 1) file ∙ ap (λ (k : ℕ). drop k file) (omega arith) in
-    let payload = payload_at at (at + 9 + n) file in
+    let payload = payload_between at (at + 9 + n) file in
     let is : payload ≡ take n (drop 8 rest) = λ i. take (left i) (sym nine i) in
     let long : length payload ≡ n = omega (arith, length-take (at + 9 + n - (at + 9)) (drop (at + 9) file), length-drop (at + 9) file) in
     let as_suc : 9 + length payload ≡ suc (8 + n) = omega (arith, long) in

@@ -14,13 +14,13 @@ IsFurther at len (Region next) = (at + 9 ≤ next) × (next ≤ len)
 IsFurther at len CutShort = Unit {0}
 
 -- the payload of a region
-abbrev pub payload_at : ℕ → ℕ → List ℕ → List ℕ
-payload_at at next file = take (next - (at + 9)) (drop (at + 9) file)
+abbrev pub payload_between : ℕ → ℕ → List ℕ → List ℕ
+payload_between at next file = take (next - (at + 9)) (drop (at + 9) file)
 
 -- what stands there in the file
 abbrev pub Finds : ℕ → List ℕ → Found → Type 0
 Finds at file Closed = slice_index file at ≢ 1
-Finds at file (Region next) = IsRegion at next (payload_at at next file) file
+Finds at file (Region next) = IsRegion at next (payload_between at next file) file
 Finds at file CutShort = IsCutShort at file
 
 -- Nothing is pending after a load; at a fault of the disk the content is what it was, or nothing is.

@@ -27,7 +27,7 @@ use Rattle.den_gate.specs.Gate.{payloads, IsAtRest, IsCurrent}
 use Rattle.den_gate.specs.Draft.{other_slot, Flips, KeepsList, PassesLimit, RestsWith, Rewrites, WritesOwn}
 use Rattle.den_gate.proofs.Alone.{Law}
 use Rattle.den_gate.proofs.Families.{rest_list, rest_image}
-use Rattle.den_journal.specs.OneWord.{family_regions, one_of, slot_at_start, start_of, GivesAsBefore, HasOne, HasWords, IsKept, IsOne, IsUnwritten, KeepsOrEmpties, WritesOne}
+use Rattle.den_journal.specs.OneWord.{family_regions, one_of, slot_at_start, start_of, GivesAsBefore, HasOne, HasWords, IsKept, IsOne, IsRefusalOfOne, KeepsOrEmpties, WritesOne}
 use Rattle.den_journal.specs.Refused.{refusal}
 use Rattle.den_journal.specs.Writes.{GoesOn, DiskTells, Faulted}
 use Rattle.den_journal.proofs.Emptying.{regions_same, read_leaves}
@@ -135,7 +135,7 @@ if_loaded family was files bad head (Err e) is = tt
 -- ---- a family that was not loaded
 
 unloaded_why : (rose told : Type 0) (family own : Family) (files : Files) (size most : ℕ) (e : GateError) → Because ⊥ rose (λ needed limit. ⊥) (λ part offset. told → ⊥) e
-    → IsUnwritten rose told family files size most (refusal own e)
+    → IsRefusalOfOne rose told family files size most (refusal own e)
 unloaded_why rose told family own files size most cause.OutOfMemory h = absurd h
 unloaded_why rose told family own files size most cause.StorageIoError h = h
 unloaded_why rose told family own files size most (cause.Full needed limit) h = absurd h
@@ -267,7 +267,7 @@ module _ {D : Type 0} (disk : Ghosts D) (law : Law disk) (gate now : GateFile) (
 
     unwritten_why : (own : Family) (e : GateError)
         → Because ⊥ (Faulted disk mid new) (λ needed limit. PassesLimit disk (other_slot gate.slot) (word ∷ []) mid new needed limit × KeepsList disk gate now mid new) (λ part offset. ⊥) e
-        → IsUnwritten (Faulted disk old new) (DiskTells disk old) gate.slot.family (disk.content new).reading (length word) (disk.kind old).limit (refusal own e)
+        → IsRefusalOfOne (Faulted disk old new) (DiskTells disk old) gate.slot.family (disk.content new).reading (length word) (disk.kind old).limit (refusal own e)
     unwritten_why own cause.OutOfMemory h = absurd h
     unwritten_why own cause.StorageIoError h = rose_later (disk.faults old) (disk.faults mid) (disk.faults new) began.goes_on.counts h
     unwritten_why own (cause.DataCorruption part offset) h = absurd h

@@ -18,7 +18,7 @@ use Rattle.den_codec.specs.declared.error.Error.{Error}
 use Rattle.den_codec.specs.declared.error.Error.TheVariants as error
 use Rattle.den_journal.specs.Writes.{GoesOn}
 use Rattle.den_journal.specs.Folding.{end_from, IsUnread}
-use Rattle.den_journal.specs.Opening.{IsLoaded, IsSynced}
+use Rattle.den_journal.specs.Opening.{IsLoaded, AllSynced}
 
 -- ---- what was read means what the payloads do
 
@@ -57,7 +57,7 @@ handed_on P x (Ok y) h p = tt
 handed_on P x (Err e) h p = subst P (sym h) p
 
 -- whatever an opening that has synced answers
-pub settled_out : {A : Type 0} (result : Result A Error) (old new : Content) → new.pending ≡ [] → IsSynced result old new
+pub settled_out : {A : Type 0} (result : Result A Error) (old new : Content) → new.pending ≡ [] → AllSynced result old new
 settled_out (Ok x) old new h = h
 settled_out (Err error.OutOfMemory) old new h = h
 settled_out (Err error.StorageIoError) old new h = inr h
@@ -99,5 +99,5 @@ module _ {D : Type 0} (disk : Ghosts D) (old mid new : D) (reads : OnlyReads dis
     pub reads_spares : SparesAll (disk.content old) (disk.content mid) → SparesAll (disk.content old) (disk.content new)
     reads_spares first = subst (λ (c : Content). SparesAll (disk.content old) c) (sym (reads.stays tells).content_same) first
 
-    pub reads_settled : {A : Type 0} (result : Result A Error) → (disk.content mid).pending ≡ [] → IsSynced result (disk.content old) (disk.content new)
+    pub reads_settled : {A : Type 0} (result : Result A Error) → (disk.content mid).pending ≡ [] → AllSynced result (disk.content old) (disk.content new)
     reads_settled result h = settled_out result (disk.content old) (disk.content new) (ap (λ (c : Content). c.pending) (reads.stays tells).content_same ∙ h)

@@ -19,7 +19,7 @@ use Rattle.den_codec.specs.declared.error.Error.{Error}
 use Rattle.den_codec.specs.declared.error.Error.TheVariants.{OutOfMemory, StorageIoError, DiskFull, LinkFault, DataCorruption, FeatureNotEnabled, ProposeFailed, UnorderedChunk, Config, StateMachineError}
 use Rattle.den_journal.specs.Causes.{IsTooShort}
 use Rattle.den_journal.specs.Folding.{IsUnread}
-use Rattle.den_journal.specs.Opening.{IsSynced}
+use Rattle.den_journal.specs.Opening.{AllSynced}
 use Rattle.den_journal.specs.Writes.{GoesOn, DiskTells, Faulted}
 
 -- the value of one region, if there is exactly one and it is a word
@@ -91,17 +91,17 @@ pub record IsFullOfOne (told : Type 0) (family : Family) (files : Files) (size m
 
 -- why a word of this size is not written: a fault of the disk, where its count rose; a full disk; and, where the disk
 -- does not tell its bytes, files that cannot be read once they were emptied
-abbrev pub IsUnwritten : (rose told : Type 0) (family : Family) (files : Files) (size most : ℕ) → Error → Type 0
-IsUnwritten rose told family files size most StorageIoError = rose
-IsUnwritten rose told family files size most (DiskFull needed limit) = IsFullOfOne told family files size most needed limit
-IsUnwritten rose told family files size most (DataCorruption place offset) = told → ⊥
-IsUnwritten rose told family files size most OutOfMemory = ⊥
-IsUnwritten rose told family files size most LinkFault = ⊥
-IsUnwritten rose told family files size most FeatureNotEnabled = ⊥
-IsUnwritten rose told family files size most ProposeFailed = ⊥
-IsUnwritten rose told family files size most (UnorderedChunk index) = ⊥
-IsUnwritten rose told family files size most (Config place) = ⊥
-IsUnwritten rose told family files size most StateMachineError = ⊥
+abbrev pub IsRefusalOfOne : (rose told : Type 0) (family : Family) (files : Files) (size most : ℕ) → Error → Type 0
+IsRefusalOfOne rose told family files size most StorageIoError = rose
+IsRefusalOfOne rose told family files size most (DiskFull needed limit) = IsFullOfOne told family files size most needed limit
+IsRefusalOfOne rose told family files size most (DataCorruption place offset) = told → ⊥
+IsRefusalOfOne rose told family files size most OutOfMemory = ⊥
+IsRefusalOfOne rose told family files size most LinkFault = ⊥
+IsRefusalOfOne rose told family files size most FeatureNotEnabled = ⊥
+IsRefusalOfOne rose told family files size most ProposeFailed = ⊥
+IsRefusalOfOne rose told family files size most (UnorderedChunk index) = ⊥
+IsRefusalOfOne rose told family files size most (Config place) = ⊥
+IsRefusalOfOne rose told family files size most StateMachineError = ⊥
 
 module _ {D : Type 0} (disk : Ghosts D) (family : Family) where
   -- a family's files of one word, all of them on the disk
@@ -117,7 +117,7 @@ module _ {D : Type 0} (disk : Ghosts D) (family : Family) where
     pub goes_on : GoesOn disk old new
     pub images : DiskTells disk old → NoNewImages (disk.images old) (disk.images new) (disk.moment old) (disk.moment new)
     pub spares : DiskTells disk old → SparesAll (disk.content old) (disk.content new)
-    pub settled : DiskTells disk old → IsSynced result (disk.content old) (disk.content new)
+    pub settled : DiskTells disk old → AllSynced result (disk.content old) (disk.content new)
     pub value : DiskTells disk old → IfOk result (λ value. one_in family read (disk.content old).reading ≡ Some value)
     pub refused : IfErr result (IsUnread (Faulted disk old new) (λ place offset. DiskTells disk old →
         (place ≡ place_number (slot_of family (disk.content old).reading)) × (offset ≡ 0) × (one_in family read (disk.content old).reading ≡ None)))
@@ -136,4 +136,4 @@ module _ {D : Type 0} (disk : Ghosts D) (family : Family) where
         (λ t files. HasOne family word files ⊎ IsKept family (disk.images old (disk.moment old)) (disk.content old).reading files) old new
     pub kept : DiskTells disk old → (was : List (List ℕ)) → ((files : Files) → disk.images old (disk.moment old) files → HasWords family was files)
         → (t : ℕ) (files : Files) → disk.moment old ≤ t → t ≤ disk.moment new → disk.images new t files → HasWords family was files ⊎ HasOne family word files
-    pub refused : IfErr result (IsUnwritten (Faulted disk old new) (DiskTells disk old) family (disk.content new).reading (length word) (disk.kind old).limit)
+    pub refused : IfErr result (IsRefusalOfOne (Faulted disk old new) (DiskTells disk old) family (disk.content new).reading (length word) (disk.kind old).limit)

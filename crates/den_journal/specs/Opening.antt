@@ -16,7 +16,7 @@ pub record IsLoaded (family : Family) (gate : GateFile) (old new : Content) : Ty
 
 -- Nothing is pending after files were opened, for whatever answer; at a fault of the disk the content may also be what
 -- it was.
-abbrev pub IsSynced : {A : Type 0} → Result A Error → Content → Content → Type 0
-IsSynced (Ok x) old new = new.pending ≡ []
-IsSynced (Err StorageIoError) old new = (new ≡ old) ⊎ (new.pending ≡ [])
-IsSynced (Err e) old new = new.pending ≡ []
+abbrev pub AllSynced : {A : Type 0} → Result A Error → Content → Content → Type 0
+AllSynced (Ok x) old new = new.pending ≡ []
+AllSynced (Err StorageIoError) old new = (new ≡ old) ⊎ (new.pending ≡ [])
+AllSynced (Err e) old new = new.pending ≡ []

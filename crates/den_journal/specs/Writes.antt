@@ -13,7 +13,7 @@ use Rattle.den_codec.specs.declared.error.Error.TheVariants.{OutOfMemory, Storag
 use Rattle.den_codec.specs.Full.{IsHeavy}
 use Rattle.den_journal.specs.Causes.{IsFullFor, IsOfDisk, IsRefusal}
 use Rattle.den_journal.specs.Folding.{IsUnread}
-use Rattle.den_journal.specs.Opening.{IsSynced}
+use Rattle.den_journal.specs.Opening.{AllSynced}
 use Rattle.den_journal.specs.Shown.{Effect, Held, IsOneOf, Shown, rewrite_size}
 
 module _ {D : Type 0} (disk : Ghosts D) where
@@ -110,7 +110,7 @@ module _ {D : Type 0} (disk : Ghosts D) where
     pub goes_on : GoesOn old new
     pub images : DiskTells old → NoNewImages (disk.images old) (disk.images new) (disk.moment old) (disk.moment new)
     pub spares : DiskTells old → SparesAll (disk.content old) (disk.content new)
-    pub settled : DiskTells old → IsSynced result (disk.content old) (disk.content new)
+    pub settled : DiskTells old → AllSynced result (disk.content old) (disk.content new)
     pub opened : IfOk result (λ s. IsOpened family gives (shown s) old new)
     pub refused : IfErr result (IsUnread (Faulted old new) (λ place offset. DiskTells old →
         (place ≡ place_number (slot_of family (disk.content old).reading)) × (gives (disk.content old).reading ≡ Err offset)))

@@ -6,7 +6,7 @@ ghost use Rattle.den_disk.specs.Families.{SparesAll, NoNewImages};
 ghost use Rattle.den_model.specs.Regions.{regions};
 ghost use Rattle.den_model.specs.Image.{slot_of};
 ghost use Rattle.den_journal.specs.Folding.{IsUnread};
-ghost use Rattle.den_journal.specs.Opening.{IsLoaded, IsSynced};
+ghost use Rattle.den_journal.specs.Opening.{IsLoaded, AllSynced};
 ghost use Rattle.den_journal.specs.Refused.{refusal};
 
 use den_codec::Error;
@@ -40,7 +40,7 @@ pub(crate) fn load<D: Disk>(family: Family, disk: &mut D) -> Result<GateFile, Er
     ensures disk { DiskGoesOn D.kind D.moment D.images D.faults disk.old disk.new }
     ensures images { IsTrue (D.kind disk.old).tells → NoNewImages (D.images disk.old) (D.images disk.new) (D.moment disk.old) (D.moment disk.new) }
     ensures spares { IsTrue (D.kind disk.old).tells → SparesAll (D.content disk.old) (D.content disk.new) }
-    ensures settled { IsTrue (D.kind disk.old).tells → IsSynced result (D.content disk.old) (D.content disk.new) }
+    ensures settled { IsTrue (D.kind disk.old).tells → AllSynced result (D.content disk.old) (D.content disk.new) }
     ensures loaded { IsTrue (D.kind disk.old).tells → IfOk result (λ gate. IsLoaded family gate (D.content disk.old) (D.content disk.new)) }
     ensures family { IfOk result (λ gate. gate.slot.family ≡ family) }
     ensures ready { IfOk result (λ gate. gate.failed ≡ false) }

@@ -12,7 +12,7 @@ use Rattle.den_model.specs.Apply.{succeeds, seconds_after, with_pair}
 use Rattle.den_model.specs.Table.{set}
 use Rattle.den_model.specs.MapState.{MapState, part_of, map_after_record, map_after_records, map_applied, map_applied_all, results_of}
 use Rattle.den_map.specs.Order.{out_of_order}
-use Rattle.den_map.specs.Fold.{carried, place_of}
+use Rattle.den_map.specs.Fold.{record_done, place_of}
 use Rattle.den_map.specs.Journal.{recorded_as, recorded, all_recorded, tells_success}
 use Rattle.den_map.proofs.Folding.{front, after_lawful, first_record, on_records}
 
@@ -46,7 +46,7 @@ expiry_set moment seconds least = grind arith
 
 -- and, carried out with its place as the mark, gives what the entry gives
 applied_as : (s : MapState) (index term moment : ℕ) (c : Command) → 1 ≤ moment
-    → ◌≡◌ {A = MapState} (record (carried s (recorded_as s index term moment c)) { mark = record { index = index; term = term } }) (map_applied s (record { index = index; term = term; moment = moment; command = c }))
+    → ◌≡◌ {A = MapState} (record (record_done s (recorded_as s index term moment c)) { mark = record { index = index; term = term } }) (map_applied s (record { index = index; term = term; moment = moment; command = c }))
 applied_as s index term moment command.Noop least = refl
 applied_as s index term moment (command.Insert key value None) least = refl
 applied_as s index term moment (command.Insert key value (Some seconds)) least =
@@ -60,7 +60,7 @@ applied_as s index term moment (command.CompareAndSwap key expected value) least
     let d = part_of s 0 in
     elim (succeeds d (command.CompareAndSwap key expected value)) as (λ b.
     let after = if b then with_pair d key value term else d in
-    ◌≡◌ {A = MapState} (record (carried s (if b then journal.Insert index term key value 0 else journal.CasFailed index term)) { mark = record { index = index; term = term } })
+    ◌≡◌ {A = MapState} (record (record_done s (if b then journal.Insert index term key value 0 else journal.CasFailed index term)) { mark = record { index = index; term = term } })
     (record { pairs = after.pairs; expiries = after.expiries; mark = record { index = index; term = term } })) [
       | true ↦ refl
       | false ↦ refl

@@ -10,12 +10,12 @@ use Rattle.den_model.specs.declared.region.StoredPair.{StoredPair}
 use Rattle.den_model.specs.MapState.{MapState, with_pair, with_pairs, marked, map_after_record, map_after_records}
 use Rattle.den_map.specs.declared.fold.FoldError.{FoldError}
 use Rattle.den_map.specs.declared.fold.FoldError.TheVariants.{Memory, Unlawful}
-use Rattle.den_map.specs.Fold.{Folds, carried, place_of}
+use Rattle.den_map.specs.Fold.{Folds, record_done, place_of}
 
 -- ---- one record
 
 -- a record of no entry
-pub after_cleanup : (s : MapState) (r : JournalRecord) → place_of r ≡ None → map_after_record s r ≡ Some (carried s r)
+pub after_cleanup : (s : MapState) (r : JournalRecord) → place_of r ≡ None → map_after_record s r ≡ Some (record_done s r)
 unfolding map_after_record
 after_cleanup s (Noop index term) e = cc
 after_cleanup s (Insert index term key value expiry) e = cc
@@ -24,11 +24,11 @@ after_cleanup s (CasFailed index term) e = cc
 after_cleanup s (Cleanup moment) e = refl
 
 -- a record of an entry is lawful where its place is above the mark
-as_marked : (s : MapState) (r : JournalRecord) (place : LogId) → place_of r ≡ Some place → map_after_record s r ≡ marked s place.index place.term (carried s r)
+as_marked : (s : MapState) (r : JournalRecord) (place : LogId) → place_of r ≡ Some place → map_after_record s r ≡ marked s place.index place.term (record_done s r)
 unfolding map_after_record
 as_marked s (Noop index term) place e = let p : record { index = index; term = term } ≡ place = cc in ap (λ (q : LogId). marked s q.index q.term s) p
-as_marked s (Insert index term key value expiry) place e = let p : record { index = index; term = term } ≡ place = cc in ap (λ (q : LogId). marked s q.index q.term (carried s (Insert index term key value expiry))) p
-as_marked s (Delete index term key) place e = let p : record { index = index; term = term } ≡ place = cc in ap (λ (q : LogId). marked s q.index q.term (carried s (Delete index term key))) p
+as_marked s (Insert index term key value expiry) place e = let p : record { index = index; term = term } ≡ place = cc in ap (λ (q : LogId). marked s q.index q.term (record_done s (Insert index term key value expiry))) p
+as_marked s (Delete index term key) place e = let p : record { index = index; term = term } ≡ place = cc in ap (λ (q : LogId). marked s q.index q.term (record_done s (Delete index term key))) p
 as_marked s (CasFailed index term) place e = let p : record { index = index; term = term } ≡ place = cc in ap (λ (q : LogId). marked s q.index q.term s) p
 as_marked s (Cleanup moment) place e = cc
 
@@ -36,13 +36,13 @@ pub after_unlawful : (s : MapState) (r : JournalRecord) (place : LogId) → plac
 after_unlawful s r place e below = as_marked s r place e ∙ rw (le-ltb s.mark.index place.index below) refl
 
 pub after_lawful : (s : MapState) (r : JournalRecord) (place : LogId) → place_of r ≡ Some place → s.mark.index < place.index
-    → map_after_record s r ≡ Some (record (carried s r) { mark = place })
+    → map_after_record s r ≡ Some (record (record_done s r) { mark = place })
 after_lawful s r place e above = as_marked s r place e ∙ rw (lt-ltb s.mark.index place.index above) refl
 
 -- what a lawful record of an entry gives
-pub lawful_gives : (s next : MapState) (r : JournalRecord) (place : LogId) → place_of r ≡ Some place → map_after_record s r ≡ Some next → record (carried s r) { mark = place } ≡ next
+pub lawful_gives : (s next : MapState) (r : JournalRecord) (place : LogId) → place_of r ≡ Some place → map_after_record s r ≡ Some next → record (record_done s r) { mark = place } ≡ next
 lawful_gives s next r place e lawful =
-    elim (nat_lt s.mark.index place.index) as (λ b. (if b then Some (record (carried s r) { mark = place }) else None) ≡ Some next → record (carried s r) { mark = place } ≡ next) [
+    elim (nat_lt s.mark.index place.index) as (λ b. (if b then Some (record (record_done s r) { mark = place }) else None) ≡ Some next → record (record_done s r) { mark = place } ≡ next) [
       | true ↦ λ h. cc
       | false ↦ λ h. cc
     ] (sym (as_marked s r place e) ∙ lawful)

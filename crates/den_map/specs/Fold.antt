@@ -16,12 +16,12 @@ Folds (Err Memory) given new = Unit {0}
 Folds (Err Unlawful) given new = given ≡ None
 
 -- pairs and expiries after a record
-abbrev pub carried : MapState → JournalRecord → MapState
-carried s (Noop index term) = s
-carried s (Insert index term key value expiry) = with_pair s key value term expiry
-carried s (Delete index term key) = record s { pairs = unset s.pairs key; expiries = unset s.expiries key }
-carried s (CasFailed index term) = s
-carried s (Cleanup moment) = cleaned_map moment s
+abbrev pub record_done : MapState → JournalRecord → MapState
+record_done s (Noop index term) = s
+record_done s (Insert index term key value expiry) = with_pair s key value term expiry
+record_done s (Delete index term key) = record s { pairs = unset s.pairs key; expiries = unset s.expiries key }
+record_done s (CasFailed index term) = s
+record_done s (Cleanup moment) = cleaned_map moment s
 
 -- the place of the entry that a record is of
 abbrev pub place_of : JournalRecord → Option LogId

@@ -11,7 +11,7 @@ ghost use Rattle.den_lease.specs.Due.{has_due, due_keys};
 ghost use Rattle.den_table.specs.Keyed.{keyed, behind};
 ghost use Rattle.den_map.specs.Cleanup.{cleaned_map};
 ghost use Rattle.den_map.specs.Scan.{keys_in};
-ghost use Rattle.den_map.specs.Fold.{carried};
+ghost use Rattle.den_map.specs.Fold.{record_done};
 ghost use Rattle.den_map.specs.Held.{EachIsHeld, IsSound};
 ghost use Rattle.den_map.specs.Journal.{expiry_of, recorded};
 ghost use Rattle.den_map.specs.Written.{IsOver, value_over};
@@ -274,7 +274,7 @@ impl Map {
         alloc: Global,
         journaled: &JournalRecord,
     ) -> Result<(), AllocError>
-        ensures { OnOk result (self.new ≡ carried self.old journaled.now) }
+        ensures { OnOk result (self.new ≡ record_done self.old journaled.now) }
     {
         match journaled {
             JournalRecord::Noop { .. } | JournalRecord::CasFailed { .. } => {}

@@ -1,4 +1,4 @@
-//! What the entries of a chunk wrote so far, before it is carried out on the map.
+//! What the entries of a chunk wrote so far, before it is record_done out on the map.
 ghost use Rattle.std.specs.Prelude.{◌≡◌, [], option_copied, OnOk};
 ghost use Rattle.den_model.specs.Table.{at};
 ghost use Rattle.den_map.specs.Written.{noted};

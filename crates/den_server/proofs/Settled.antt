@@ -8,7 +8,7 @@ use Rattle.den_disk.specs.Families.{NoNewImages, SparesAll}
 use Rattle.den_codec.specs.declared.error.Error.{Error}
 use Rattle.den_codec.specs.declared.error.Error.TheVariants as error
 use Rattle.den_model.specs.Kv.{Durable, Kv}
-use Rattle.den_journal.specs.Opening.{IsSynced}
+use Rattle.den_journal.specs.Opening.{AllSynced}
 use Rattle.den_disk.specs.declared.place.Family.{Family}
 use Rattle.den_core.specs.Spared.{SparesFamily}
 use Rattle.den_server.specs.Opening.{Settles, SurvivesOpening}
@@ -45,7 +45,7 @@ spares_read family content moment images old new all none = record {
 }
 
 -- an opening that failed has synced, or left all as it was
-pub settled_or_same : (A : Type 0) (e : Error) (old new : Content) → IsSynced {A = A} (Err e) old new → (new ≡ old) ⊎ (new.pending ≡ [])
+pub settled_or_same : (A : Type 0) (e : Error) (old new : Content) → AllSynced {A = A} (Err e) old new → (new ≡ old) ⊎ (new.pending ≡ [])
 settled_or_same A error.OutOfMemory old new h = inr h
 settled_or_same A error.StorageIoError old new h = h
 settled_or_same A (error.DataCorruption place offset) old new h = inr h

@@ -17,7 +17,7 @@ use Rattle.den_snapshot.specs.Words.{snapshot_in, snapshot_word}
 use Rattle.den_snapshot.proofs.Giving.{snapshot_long}
 use Rattle.den_gate.specs.Slot.{room_for}
 use Rattle.den_journal.specs.Causes.{IsFullAt, IsFullFor}
-use Rattle.den_journal.specs.OneWord.{GivesAsBefore, HasOne, IsUnwritten, WritesOne, one_of}
+use Rattle.den_journal.specs.OneWord.{GivesAsBefore, HasOne, IsRefusalOfOne, WritesOne, one_of}
 use Rattle.den_journal.specs.Shown.{Shown, rewrite_size}
 use Rattle.den_journal.specs.Writes.{DiskTells, Faulted}
 use Rattle.den_gate.proofs.Alone.{Law}
@@ -38,7 +38,7 @@ held_by t files again one = record { one = one; is = one_read (snapshot_word t) 
 -- ---- the call
 
 -- why a word was not written is why its snapshot is not stored
-unstored : (rose told : Type 0) (files : Files) (size most : ℕ) (e : Error) → IsUnwritten rose told Snapshot files size most e → IsUnstored rose told most e
+unstored : (rose told : Type 0) (files : Files) (size most : ℕ) (e : Error) → IsRefusalOfOne rose told Snapshot files size most e → IsUnstored rose told most e
 unstored rose told files size most error.OutOfMemory h = tt
 unstored rose told files size most error.StorageIoError h = h
 unstored rose told files size most (error.DiskFull needed limit) h = (h.passes, h.limit_is)
@@ -50,7 +50,7 @@ unstored rose told files size most (error.UnorderedChunk index) h = h
 unstored rose told files size most (error.Config place) h = h
 unstored rose told files size most error.StateMachineError h = h
 
-full_for : (rose told : Type 0) (files : Files) (size most weight : ℕ) (e : Error) → size ≤ weight → IsUnwritten rose told Snapshot files size most e → IsFullFor told Snapshot files weight (λ n. ⊥) (λ n. n ≡ size) e
+full_for : (rose told : Type 0) (files : Files) (size most weight : ℕ) (e : Error) → size ≤ weight → IsRefusalOfOne rose told Snapshot files size most e → IsFullFor told Snapshot files weight (λ n. ⊥) (λ n. n ≡ size) e
 full_for rose told files size most weight (error.DiskFull needed limit) within h = (record { size = size; within = within; room = omega (arith, h.room) }, λ t. inr (h.short t))
 full_for rose told files size most weight error.OutOfMemory within h = tt
 full_for rose told files size most weight error.StorageIoError within h = tt
@@ -62,7 +62,7 @@ full_for rose told files size most weight (error.UnorderedChunk index) within h 
 full_for rose told files size most weight (error.Config place) within h = tt
 full_for rose told files size most weight error.StateMachineError within h = tt
 
-heavy_for : (rose told : Type 0) (files : Files) (size most weight : ℕ) (e : Error) → size ≤ weight → IsUnwritten rose told Snapshot files size most e → IsHeavy most weight e
+heavy_for : (rose told : Type 0) (files : Files) (size most weight : ℕ) (e : Error) → size ≤ weight → IsRefusalOfOne rose told Snapshot files size most e → IsHeavy most weight e
 heavy_for rose told files size most weight (error.DiskFull needed limit) within h =
     let room : needed ≡ room_for size 0 = omega (arith, h.room) in
     omega (arith, full_of size needed limit weight room h.passes h.least within, h.limit_is)
@@ -76,7 +76,7 @@ heavy_for rose told files size most weight (error.UnorderedChunk index) within h
 heavy_for rose told files size most weight (error.Config place) within h = tt
 heavy_for rose told files size most weight error.StateMachineError within h = tt
 
-room_told : (rose told : Type 0) (files : Files) (size most : ℕ) (e : Error) → IsUnwritten rose told Snapshot files size most e → IsFullAt 0 size e
+room_told : (rose told : Type 0) (files : Files) (size most : ℕ) (e : Error) → IsRefusalOfOne rose told Snapshot files size most e → IsFullAt 0 size e
 room_told rose told files size most (error.DiskFull needed limit) h = h.room
 room_told rose told files size most error.OutOfMemory h = tt
 room_told rose told files size most error.StorageIoError h = tt
@@ -89,8 +89,8 @@ room_told rose told files size most (error.Config place) h = tt
 room_told rose told files size most error.StateMachineError h = tt
 
 -- no word is told from want of memory
-not_wanting : (rose told : Type 0) (files : Files) (size most : ℕ) (e : Error) → IsUnwritten rose told Snapshot files size most e → e ≡ error.OutOfMemory → ⊥
-not_wanting rose told files size most e h is = subst (IsUnwritten rose told Snapshot files size most) is h
+not_wanting : (rose told : Type 0) (files : Files) (size most : ℕ) (e : Error) → IsRefusalOfOne rose told Snapshot files size most e → e ≡ error.OutOfMemory → ⊥
+not_wanting rose told files size most e h is = subst (IsRefusalOfOne rose told Snapshot files size most) is h
 
 module _ {D : Type 0} (disk : Ghosts D) (was now : Shown MapState) (made : Taken) (same_value : now.value ≡ was.value) (same_weight : now.weight ≡ was.weight) (again : snapshot_in (snapshot_word made) ≡ Some made) where
   module _ (old new : D) where

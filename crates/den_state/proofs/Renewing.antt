@@ -27,7 +27,7 @@ use Rattle.den_journal.specs.Shown.{rewrite_size}
 use Rattle.den_journal.specs.Writes.{DiskTells, GoesOn}
 use Rattle.den_state.specs.contracts.stored_map.StoredMapFolded.TheImpl.{ghosts}
 use Rattle.den_state.specs.declared.stored_map.StoredMap.{StoredMap}
-use Rattle.den_state.specs.Checkpoint.{IsRenewed, IsWritten, Renews, Replaces, Steps, words_of}
+use Rattle.den_state.specs.Checkpoint.{IsRenewed, IsDraftWhole, Renews, Replaces, Steps, words_of}
 use Rattle.den_state.specs.Folds.{after_lawful, stored_fold}
 use Rattle.den_state.specs.Stored.{Stored, nothing_stored, stored_from}
 use Rattle.den_state.proofs.Checkpointing.{front_small, steps_by, steps_more, steps_then}
@@ -62,7 +62,7 @@ stored_anew m pages sound all begins fits =
 -- ---- what its commit leaves
 
 module _ {D : Type 0} (disk : DiskGhosts D) (stands : Stored) (was mid now : Journal StoredMap) (old d new : D) (held : mid.held ≡ was.held) (slot : mid.gate.slot ≡ was.gate.slot) (most : ℕ) (light : (journal_shown ghosts was).weight ≤ most)
-    (steps : Steps ghosts disk stands was.held.map was mid old d most [] (Ok (tt {0}))) (w : IsWritten ghosts disk stands was.held.map mid d) where
+    (steps : Steps ghosts disk stands was.held.map was mid old d most [] (Ok (tt {0}))) (w : IsDraftWhole ghosts disk stands was.held.map mid d) where
   pub given : stored_from nothing_stored (placed 0 (words_of was.held.map w.pages)) ≡ Ok (record { map = mid.held.map; tail = 0 })
   given = stored_anew was.held.map w.pages w.sound w.all w.begins w.fits ∙ ap (λ (h : StoredMap). Ok (record { map = h.map; tail = 0 })) (sym held)
 

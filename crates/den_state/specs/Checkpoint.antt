@@ -85,7 +85,7 @@ module _ (fold : Ghosts StoredMap StateRegion) {D : Type 0} (disk : DiskGhosts D
       pub light : rewrite_size (pairs_size m.pairs) ≤ most
 
     -- a checkpoint that stands whole in the draft
-    pub record IsWritten (j : Journal StoredMap) (at : D) : Type 0 where
+    pub record IsDraftWhole (j : Journal StoredMap) (at : D) : Type 0 where
       pub pages : List (List StoredPair)
       pub drafting : IsDrafting fold disk stands j (words_of m pages) at
       pub all : flat_map (λ page. page) pages ≡ stored_pairs m
@@ -106,7 +106,7 @@ module _ (fold : Ghosts StoredMap StateRegion) {D : Type 0} (disk : DiskGhosts D
       pub record Next (most : ℕ) (last key : Option (List ℕ)) (result : Result Bool Error) : Type 0 where
         pub steps : Steps most [] result
         pub writing : OnOk result (IsWriting most key now new)
-        pub written : IfOk result (λ more. more ≡ false → IsWritten now new)
+        pub written : IfOk result (λ more. more ≡ false → IsDraftWhole now new)
         pub fewer : IfOk result (λ more. more ≡ true → length (behind key m.pairs) < length (behind last m.pairs))
 
       -- a call that writes the map anew

@@ -31,16 +31,16 @@ unfolding stored_after
 after_lawful s payload m tail is counted =
     ap (λ (o : Option MapState). elim o [ None ↦ None | Some n ↦ Some (record { map = n; tail = tail_after_payload s.tail payload }) ]) is ∙ ap (λ (t : ℕ). Some (record { map = m; tail = t })) (sym counted)
 
-pub after_unlawful : (s : Stored) (payload : List ℕ) → map_after_payload s.map payload ≡ None → stored_after s payload ≡ None
+pub stored_unlawful : (s : Stored) (payload : List ℕ) → map_after_payload s.map payload ≡ None → stored_after s payload ≡ None
 unfolding stored_after
-after_unlawful s payload is = ap (λ (o : Option MapState). elim o [ None ↦ None | Some n ↦ Some (record { map = n; tail = tail_after_payload s.tail payload }) ]) is
+stored_unlawful s payload is = ap (λ (o : Option MapState). elim o [ None ↦ None | Some n ↦ Some (record { map = n; tail = tail_after_payload s.tail payload }) ]) is
 
 -- what a map that took a payload on gives
-pub taken_by : {E : Type 0} (s : Stored) (payload : List ℕ) (m : MapState) (tail : ℕ) (r : Result Bool E) → IfOk r (λ b. map_after_payload s.map payload ≡ (if b then Some m else None)) → IfOk r (λ b. IsTrue b → tail ≡ tail_after_payload s.tail payload)
+pub payload_taken : {E : Type 0} (s : Stored) (payload : List ℕ) (m : MapState) (tail : ℕ) (r : Result Bool E) → IfOk r (λ b. map_after_payload s.map payload ≡ (if b then Some m else None)) → IfOk r (λ b. IsTrue b → tail ≡ tail_after_payload s.tail payload)
     → IfOk r (λ b. stored_after s payload ≡ (if b then Some (record { map = m; tail = tail }) else None))
-taken_by s payload m tail (Ok true) is counted = after_lawful s payload m tail is (counted refl)
-taken_by s payload m tail (Ok false) is counted = after_unlawful s payload is
-taken_by s payload m tail (Err e) is counted = tt
+payload_taken s payload m tail (Ok true) is counted = after_lawful s payload m tail is (counted refl)
+payload_taken s payload m tail (Ok false) is counted = stored_unlawful s payload is
+payload_taken s payload m tail (Err e) is counted = tt
 
 -- the word of a region is read as it
 word_map : (m : MapState) (r : StateRegion) → FitsStateRegion r → map_after_payload m (state_region_word r) ≡ map_after m r
@@ -76,7 +76,7 @@ unfolding map_from
 map_goes_on m next r rs is = ap (λ (o : Option MapState). elim o [ None ↦ Err r.offset | Some n ↦ map_from n rs ]) is
 
 map_step : (s : Stored) (r : Region) (rs : List Region) → ((n : Stored) → map_from n.map rs ≡ map_of (stored_from n rs)) → (o : Option MapState) → map_after_payload s.map r.payload ≡ o → map_from s.map (r ∷ rs) ≡ map_of (stored_from s (r ∷ rs))
-map_step s r rs rest None is = map_stops s.map r rs is ∙ sym (ap map_of (stored_fold.stops s r rs (after_unlawful s r.payload is)))
+map_step s r rs rest None is = map_stops s.map r rs is ∙ sym (ap map_of (stored_fold.stops s r rs (stored_unlawful s r.payload is)))
 map_step s r rs rest (Some m) is =
     let n : Stored = record { map = m; tail = tail_after_payload s.tail r.payload } in
     map_goes_on s.map m r rs is ∙ rest n ∙ sym (ap map_of (stored_fold.goes_on s n r rs (after_lawful s r.payload m (tail_after_payload s.tail r.payload) is refl)))

@@ -4,7 +4,7 @@ ghost use Rattle.den_model.specs.MapState.{MapState};
 ghost use Rattle.den_journal.specs.Drafts.{IsDrafting};
 ghost use Rattle.den_journal.specs.Journals.{journal_shown};
 ghost use Rattle.den_journal.specs.Writes.{StoreStands};
-ghost use Rattle.den_state.specs.Checkpoint.{IsWriting, IsWritten, Next, Steps, Renews};
+ghost use Rattle.den_state.specs.Checkpoint.{IsWriting, IsDraftWhole, Next, Steps, Renews};
 ghost use Rattle.den_state.specs.Stored.{Stored};
 
 use crate::stored_map::StoredMap;
@@ -71,7 +71,7 @@ fn push_pages<D: Disk>(
         (journal_shown ⟦<StoredMap as Folded>⟧ journal.old).weight [] result }
     ensures written { (stands : Stored) → IsWriting ⟦<StoredMap as Folded>⟧ D.Disk stands journal.old.held.map
         (journal_shown ⟦<StoredMap as Folded>⟧ journal.old).weight None journal.old disk.old
-        → OnOk result (IsWritten ⟦<StoredMap as Folded>⟧ D.Disk stands journal.old.held.map journal.new disk.new) }
+        → OnOk result (IsDraftWhole ⟦<StoredMap as Folded>⟧ D.Disk stands journal.old.held.map journal.new disk.new) }
     ensures held { journal.new.held ≡ journal.old.held }
     ensures slot { journal.new.gate.slot ≡ journal.old.gate.slot }
 {
@@ -96,7 +96,7 @@ fn push_map<D: Disk>(
         → Steps ⟦<StoredMap as Folded>⟧ D.Disk stands journal.old.held.map journal.old journal.new disk.old disk.new
         (journal_shown ⟦<StoredMap as Folded>⟧ journal.old).weight [] result }
     ensures written { (stands : Stored) → IsDrafting ⟦<StoredMap as Folded>⟧ D.Disk stands journal.old [] disk.old
-        → OnOk result (IsWritten ⟦<StoredMap as Folded>⟧ D.Disk stands journal.old.held.map journal.new disk.new) }
+        → OnOk result (IsDraftWhole ⟦<StoredMap as Folded>⟧ D.Disk stands journal.old.held.map journal.new disk.new) }
     ensures held { journal.new.held ≡ journal.old.held }
     ensures slot { journal.new.gate.slot ≡ journal.old.gate.slot }
 {

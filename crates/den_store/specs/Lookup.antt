@@ -6,8 +6,8 @@ use Rattle.den_model.specs.declared.region.LogRegion.TheVariants.{Append, Trunca
 use Rattle.den_model.specs.Entries.{LogEntry}
 
 -- the entry of an index
-abbrev pub entry_at : ℕ → List LogEntry → Option LogEntry
-entry_at index entries = find (λ (e : LogEntry). nat_eq e.index index) entries
+abbrev pub entry_of : ℕ → List LogEntry → Option LogEntry
+entry_of index entries = find (λ (e : LogEntry). nat_eq e.index index) entries
 
 -- the entries that a region adds
 abbrev pub entries_of : LogRegion → List LogEntry

@@ -8,7 +8,7 @@ ghost use Rattle.den_disk.specs.Families.{SparesAll, NoNewImages};
 ghost use Rattle.den_model.specs.Image.{slot_of, log_in, hard_state_held};
 ghost use Rattle.den_model.specs.Sizes.{entries_size, family_size};
 ghost use Rattle.den_journal.specs.Folding.{IsUnread};
-ghost use Rattle.den_journal.specs.Opening.{IsSynced};
+ghost use Rattle.den_journal.specs.Opening.{AllSynced};
 ghost use Rattle.den_journal.specs.Writes.{GoesOn, IsOpened};
 ghost use Rattle.den_store.specs.Engine.{IsFirstCorrupt};
 ghost use Rattle.den_store.specs.FileLog.{file_place, log_shown};
@@ -79,7 +79,7 @@ impl FileStorageEngine {
         ensures goes_on { GoesOn D.Disk disk.old disk.new }
         ensures images { IsTrue (D.kind disk.old).tells → NoNewImages (D.images disk.old) (D.images disk.new) (D.moment disk.old) (D.moment disk.new) }
         ensures spares { IsTrue (D.kind disk.old).tells → SparesAll (D.content disk.old) (D.content disk.new) }
-        ensures settled { IsTrue (D.kind disk.old).tells → IsSynced result (D.content disk.old) (D.content disk.new) }
+        ensures settled { IsTrue (D.kind disk.old).tells → AllSynced result (D.content disk.old) (D.content disk.new) }
         ensures data_dir { IfOk result (λ s. s.data_dir ≡ data_dir) }
         ensures log { IfOk result (λ s. IsOpened D.Disk log_family log_in (log_shown s.log) disk.old disk.new) }
         ensures meta { IfOk result (λ s. IsOpened D.Disk meta_family hard_state_held (meta_shown s.meta) disk.old disk.new) }

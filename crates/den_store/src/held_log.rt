@@ -6,7 +6,7 @@ ghost use Rattle.den_model.specs.Log.{empty_log, floor, below, above, between, r
 ghost use Rattle.den_model.specs.Words.{FitsEntry, FitsLogRegion};
 ghost use Rattle.den_model.specs.declared.region.LogRegion.TheVariants.{Truncate, Purge, Reset};
 ghost use Rattle.den_store.specs.Fits.{fits_prop};
-ghost use Rattle.den_store.specs.Lookup.{entry_at, entries_of, rest_region};
+ghost use Rattle.den_store.specs.Lookup.{entry_of, entries_of, rest_region};
 ghost use Rattle.den_store.specs.Order.{IsInOrder};
 
 use crate::copies::copied;
@@ -75,7 +75,7 @@ impl HeldLog {
 
     // The held entry of an index.
     pub(crate) fn entry(&self, index: u64) -> Result<Option<Entry>, AllocError>
-        ensures { IfOk result (λ found. found ≡ entry_at index (log_of self.now).entries) }
+        ensures { IfOk result (λ found. found ≡ entry_of index (log_of self.now).entries) }
     {
         let entries = self.entries.as_slice();
         let before = count_below(entries, index);

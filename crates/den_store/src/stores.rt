@@ -13,7 +13,7 @@ ghost use Rattle.den_journal.specs.Lies.{Lies};
 ghost use Rattle.den_journal.specs.Shown.{Held, Shown};
 ghost use Rattle.den_journal.specs.Writes.{Ends, StoreStands, Syncs, Writes};
 ghost use Rattle.den_store.specs.Changes.{log_change, purge_change, state_change};
-ghost use Rattle.den_store.specs.Lookup.{entry_at};
+ghost use Rattle.den_store.specs.Lookup.{entry_of};
 ghost use Rattle.den_store.specs.Order.{IsInOrder};
 
 use den_codec::{Entry, Error, HardState, LogId, Rows};
@@ -97,7 +97,7 @@ pub trait LogStore<D: Disk>: Drop {
 
     /// The entry of an index, if it is held.
     fn entry(&self, index: u64) -> Result<Option<Entry>, Error>
-        ensures entry { IfOk result (λ found. found ≡ entry_at index (shown self.now).value.entries) }
+        ensures entry { IfOk result (λ found. found ≡ entry_of index (shown self.now).value.entries) }
         ensures refused { IfErr result (λ e. e ≡ OutOfMemory) };
 
     /// The entries from a first index up to a last one.

@@ -3,7 +3,7 @@ use Rattle.std.proofs.lemmas.List.{get_or_past}
 use Rattle.den_disk.proofs.Moments.{stays_then}
 use Rattle.den_gate.specs.Slot.{IsRegion, IsCutShort}
 use Rattle.den_gate.specs.Window.{Shows}
-use Rattle.den_gate.specs.Loading.{Finds, IsFurther, payload_at}
+use Rattle.den_gate.specs.Loading.{Finds, IsFurther, payload_between}
 use Rattle.den_gate.proofs.Written.{begins_closed, begins_more, begins_short}
 use Rattle.den_gate.proofs.find.find_end.Goals as goal
 
@@ -56,6 +56,6 @@ loop-at-preserved g c =
           let same : (g.D.Disk.content c.loop-at.disk).reading c.args.slot ≡ file = ap (λ k. k.reading c.args.slot) (c.loop-at.invariant.stays tells).content_same in
           let found = subst (λ f. Finds at ((g.D.Disk.content c.loop-at.disk).reading c.args.slot) f) c.in-Region.is (c.in_ok-look.ensures.found tells1) in
           let b = c.loop-at.invariant.begins tells in
-          let payload = payload_at at next file in
-          (b.0 ++ payload ∷ [], begins_more b.0 at next payload file b.1 (subst (λ (l : List ℕ). IsRegion at next (payload_at at next l) l) same found));
+          let payload = payload_between at next file in
+          (b.0 ++ payload ∷ [], begins_more b.0 at next payload file b.1 (subst (λ (l : List ℕ). IsRegion at next (payload_between at next l) l) same found));
     }

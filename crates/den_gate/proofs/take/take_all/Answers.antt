@@ -3,7 +3,7 @@ use Rattle.std.proofs.lemmas.List.{get_or_past}
 use Rattle.den_disk.proofs.Moments.{stays_then}
 use Rattle.den_gate.specs.Slot.{IsRegion, IsCutShort}
 use Rattle.den_gate.specs.Window.{Shows}
-use Rattle.den_gate.specs.Loading.{Finds, IsFurther, payload_at}
+use Rattle.den_gate.specs.Loading.{Finds, IsFurther, payload_between}
 use Rattle.den_gate.proofs.Written.{begins_holds, holds_payloads, begins_pushed, begins_short}
 use Rattle.den_gate.proofs.take.take_all.Goals as goal
 
@@ -65,8 +65,8 @@ loop-at-preserved g c =
           let same : (g.D.Disk.content c.loop-at.disk).reading c.args.slot ≡ file = ap (λ k. k.reading c.args.slot) (c.loop-at.invariant.stays tells).content_same in
           let same2 : (g.D.Disk.content c.look.new.disk).reading c.args.slot ≡ file = ap (λ k. k.reading c.args.slot) (c.look.ensures.stays tells1).content_same ∙ same in
           let found = subst (λ f. Finds at ((g.D.Disk.content c.loop-at.disk).reading c.args.slot) f) c.in-Region.is (c.in_ok-look.ensures.found tells1) in
-          let taken = c.in_ok-take_payload-in-Region.ensures.payload tells2 ∙ ap (payload_at at next) same2 in
-          let region = subst (λ (l : List ℕ). IsRegion at next (payload_at at next l) l) same found in
-          begins_pushed c.loop-at.list.items c.push.new.self.items at next c.in_ok-take_payload-in-Region.field-0 (payload_at at next file) file (c.loop-at.invariant.begins tells) region taken
+          let taken = c.in_ok-take_payload-in-Region.ensures.payload tells2 ∙ ap (payload_between at next) same2 in
+          let region = subst (λ (l : List ℕ). IsRegion at next (payload_between at next l) l) same found in
+          begins_pushed c.loop-at.list.items c.push.new.self.items at next c.in_ok-take_payload-in-Region.field-0 (payload_between at next file) file (c.loop-at.invariant.begins tells) region taken
           c.in_ok-push-in-Region.ensures.items;
     }

@@ -2,7 +2,7 @@ use Rattle.std.proofs.Common.{ℕ, [], OnOk, refl, subst}
 use Rattle.den_journal.specs.Journals.{journal_shown}
 use Rattle.den_state.specs.contracts.stored_map.StoredMapFolded.TheImpl.{ghosts}
 use Rattle.den_state.specs.declared.stored_map.StoredMap.{StoredMap}
-use Rattle.den_state.specs.Checkpoint.{IsWritten, Steps}
+use Rattle.den_state.specs.Checkpoint.{IsDraftWhole, Steps}
 use Rattle.den_state.proofs.Checkpointing.{steps_then, writing_held}
 use Rattle.den_state.proofs.checkpoint.push_map.Goals as goal
 
@@ -24,4 +24,4 @@ returns-in-Ok-clause-written g c = λ stands drafting.
     let j = c.args.journal.now in
     let mid = c.push_mark.new.journal in
     let w = writing_held ghosts g.D.Disk stands j.held.map j mid c.push_mark.new.disk c.in-Ok.ensures.held c.in-Ok.ensures.weight refl (c.in-Ok.ensures.writing stands drafting) in
-    subst (λ (h : StoredMap). OnOk c.push_pages.result (IsWritten ghosts g.D.Disk stands h.map c.push_pages.new.journal c.push_pages.new.disk)) c.in-Ok.ensures.held (c.push_pages.ensures.written stands w)
+    subst (λ (h : StoredMap). OnOk c.push_pages.result (IsDraftWhole ghosts g.D.Disk stands h.map c.push_pages.new.journal c.push_pages.new.disk)) c.in-Ok.ensures.held (c.push_pages.ensures.written stands w)

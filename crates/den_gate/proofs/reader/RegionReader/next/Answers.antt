@@ -2,7 +2,7 @@ use Rattle.std.proofs.Common.{◌≡◌, ◌≢◌, refl, arith, ℕ, List, IsTr
 use Rattle.std.proofs.lemmas.List.{get_or_past}
 use Rattle.den_disk.specs.Files.{Content}
 use Rattle.den_gate.specs.Slot.{payloads_of, IsRegion}
-use Rattle.den_gate.specs.Loading.{Finds, IsFurther, payload_at}
+use Rattle.den_gate.specs.Loading.{Finds, IsFurther, payload_between}
 use Rattle.den_gate.proofs.Written.{begins_short}
 use Rattle.den_gate.proofs.NextRegion.{next_found, none_found, stands_behind}
 use Rattle.den_gate.proofs.reader.RegionReader.next.Goals as goal
@@ -33,7 +33,7 @@ returns-in_ok-take_bytes-in-Region-clause-found g c = λ tells.
     let tells1 = subst (λ k. IsTrue k.tells) (sym c.look.ensures.kind) tells in
     let same : (g.D.Disk.content c.look.new.disk).reading old.slot ≡ file = ap (λ (k : Content). k.reading old.slot) (c.look.ensures.stays tells).content_same in
     let region = subst (λ f. Finds old.at file f) c.in-Region.is (c.in_ok-look.ensures.found tells) in
-    let taken : c.take_bytes.new.buffer.items ≡ payload_at old.at next file = c.in_ok-take_bytes-in-Region.ensures.payload tells1 ∙ ap (payload_at old.at next) same in
+    let taken : c.take_bytes.new.buffer.items ≡ payload_between old.at next file = c.in_ok-take_bytes-in-Region.ensures.payload tells1 ∙ ap (payload_between old.at next) same in
     (next_found (payloads_of file) old.given old.at file s.given s.begins s.whole next c.take_bytes.new.buffer.items (omega (arith, on, old.most))
     (subst (λ (p : List ℕ). IsRegion old.at next p file) (sym taken) region)).2
 
@@ -46,7 +46,7 @@ returns-in_ok-take_bytes-in-Region-clause-stands g c = λ tells.
     let tells1 = subst (λ k. IsTrue k.tells) (sym c.look.ensures.kind) tells in
     let same = ap (λ (k : Content). k.reading) ((c.take_bytes.ensures.stays tells1).content_same ∙ (c.look.ensures.stays tells).content_same) in
     let region = subst (λ f. Finds old.at file f) c.in-Region.is (c.in_ok-look.ensures.found tells) in
-    stands_behind old _ (content c.args.disk.now).reading (content c.take_bytes.new.disk).reading (payload_at old.at next file) (c.requires.stands tells) same refl refl refl (c.look.ensures.shows tells) region
+    stands_behind old _ (content c.args.disk.now).reading (content c.take_bytes.new.disk).reading (payload_between old.at next file) (c.requires.stands tells) same refl refl refl (c.look.ensures.shows tells) region
 
 pub returns-in-CutShort-clause-refused : goal.returns-in-CutShort-clause-refused
 returns-in-CutShort-clause-refused g c = λ tells.
