@@ -9,6 +9,8 @@ mod gate;
 #[cfg(test)]
 mod host;
 #[cfg(test)]
+mod install;
+#[cfg(test)]
 mod lease;
 #[cfg(test)]
 mod one_word;

@@ -54,20 +54,26 @@ const NO_WORD: &[u8] = b"\x01\0\0\0\0\0\0\0\x08\0\0\0\0\0\0\0\x03\0";
 // The calls of the disk that a write makes of one word in the place of another.
 const WRITE_CALLS: u64 = 17;
 
-// The head and both slots.
+/// The Snapshot family's head and both slots.
 #[derive(Clone, Copy)]
-struct Bytes {
-    head: &'static [u8],
-    a: &'static [u8],
-    b: &'static [u8],
+pub(crate) struct Bytes {
+    pub(crate) head: &'static [u8],
+    pub(crate) a: &'static [u8],
+    pub(crate) b: &'static [u8],
 }
 
-fn disk_of(alloc: Global, bytes: Bytes) -> Result<MemDisk, Fail> {
+/// A disk with these files alone.
+pub(crate) fn disk_of(alloc: Global, bytes: Bytes) -> Result<MemDisk, Fail> {
     let mut disk = MemDisk::new(alloc);
+    put(&mut disk, bytes)?;
+    Ok(disk)
+}
+
+/// Puts these files.
+pub(crate) fn put(disk: &mut MemDisk, bytes: Bytes) -> Result<(), Fail> {
     disk.set(HEAD, bytes.head)?;
     disk.set(A, bytes.a)?;
-    disk.set(B, bytes.b)?;
-    Ok(disk)
+    Ok(disk.set(B, bytes.b)?)
 }
 
 fn read<D: Disk>(alloc: Global, disk: &mut D) -> Result<HardState, Error> {

@@ -65,7 +65,7 @@ const NOTHING_REGION: &[u8] = b"\x01\0\0\0\0\0\0\0\x11\x01\0\0\0\0\0\0\0\0\0\0\0
 
 // What an entry does, where keys and values are single bytes.
 #[derive(Clone, Copy, Debug)]
-enum Write {
+pub(crate) enum Write {
     Noop,
     Insert(u8, u8),
     Expiring(u8, u8, u64),
@@ -74,7 +74,7 @@ enum Write {
 }
 
 // The mark of an index and of the term 1, and none at 0.
-fn mark_of(index: u64) -> LogId {
+pub(crate) fn mark_of(index: u64) -> LogId {
     let term = if index == 0 { 0 } else { 1 };
     LogId { index, term }
 }
@@ -147,7 +147,7 @@ fn puts_of(alloc: Global, pairs: &[(&str, &str)]) -> Result<Vec<Entry>, Error> {
     Ok(entries)
 }
 
-fn lease_of(alloc: Global, leased: bool) -> Option<DefaultLease>
+pub(crate) fn lease_of(alloc: Global, leased: bool) -> Option<DefaultLease>
     ensures { IfSome result (λ l. l.map ≡ []) }
 {
     if leased {
@@ -161,12 +161,51 @@ fn lease_of(alloc: Global, leased: bool) -> Option<DefaultLease>
 enum Work {
     Chunk(Vec<(u64, Write)>),
     Cleanup(u64),
+    Flush,
+    Reset,
+    Generate,
+    Install(Install),
+}
+
+// A snapshot put in the map's place: the index of its mark, and the moment of its cleanup.
+#[derive(Clone, Copy, Debug)]
+struct Install {
+    last: u64,
+    moment: u64,
 }
 
 #[derive(Debug, Drop, PartialEq, Eq)]
 enum Answer {
     Results(Rows<ApplyResult>),
     Removed(Rows<Blob>),
+    Done,
+}
+
+// Stores a snapshot under the applied mark.
+fn take_snapshot<D: Disk, M: StateMachine<D>>(
+    machine: &mut M,
+    disk: &mut D,
+) -> Result<Answer, Error>
+    requires stands { StoreStands D.Disk (M.shown machine.old) disk.old }
+{
+    let mark = machine.last_applied();
+    machine.generate_snapshot_data(disk, mark)?;
+    Ok(Answer::Done)
+}
+
+fn put_snapshot<D: Disk, M: StateMachine<D>>(
+    machine: &mut M,
+    disk: &mut D,
+    install: Install,
+) -> Result<Answer, Error>
+    requires stands { StoreStands D.Disk (M.shown machine.old) disk.old }
+{
+    let metadata = SnapshotMetadata {
+        last_included: Some(mark_of(install.last)),
+        checksum: [0; 32],
+    };
+    machine.apply_snapshot_from_file(disk, &metadata, install.moment)?;
+    Ok(Answer::Done)
 }
 
 // Does it, as a state machine over any disk does.
@@ -186,11 +225,21 @@ fn make<D: Disk, M: StateMachine<D>>(
         Work::Cleanup(moment) => Ok(Answer::Removed(machine.lease_background_cleanup(
             disk, *moment,
         )?)),
+        Work::Flush => {
+            machine.flush(disk)?;
+            Ok(Answer::Done)
+        }
+        Work::Reset => {
+            machine.reset(disk)?;
+            Ok(Answer::Done)
+        }
+        Work::Generate => take_snapshot(machine, disk),
+        Work::Install(from) => put_snapshot(machine, disk, *from),
     }
 }
 
 // The results of a chunk, by a state machine opened anew with a lease or without one.
-fn apply<D: Disk>(
+pub(crate) fn apply<D: Disk>(
     alloc: Global,
     disk: &mut D,
     leased: bool,
@@ -232,7 +281,7 @@ enum Storing {
 }
 
 // Moves the applied mark, where it is not above.
-fn move_mark<D: Disk, M: StateMachine<D>>(
+pub(crate) fn move_mark<D: Disk, M: StateMachine<D>>(
     machine: &mut M,
     disk: &mut D,
     mark: LogId,
@@ -333,7 +382,11 @@ fn has<D: Disk, M: StateMachine<D>>(machine: &M, key: u8, value: Option<u8>) -> 
 }
 
 // Whether it has these values at the keys from `FIRST_KEY` on, no other pair, and this mark.
-fn is_as<D: Disk, M: StateMachine<D>>(machine: &M, values: [Option<u8>; 5], mark: LogId) -> bool {
+pub(crate) fn is_as<D: Disk, M: StateMachine<D>>(
+    machine: &M,
+    values: [Option<u8>; 5],
+    mark: LogId,
+) -> bool {
     let mut count: usize = 0;
     let mut key = FIRST_KEY;
     for value in values {
@@ -349,7 +402,7 @@ fn is_as<D: Disk, M: StateMachine<D>>(machine: &M, values: [Option<u8>; 5], mark
 }
 
 // The same of one that is opened anew.
-fn opens_as<D: Disk>(
+pub(crate) fn opens_as<D: Disk>(
     alloc: Global,
     disk: &mut D,
     values: [Option<u8>; 5],
@@ -478,7 +531,7 @@ fn writes_a_region_of_one_record(rt: HostRuntime) -> Result<(), Fail> {
 }
 
 // Whether a cleanup removes these keys.
-fn removes<D: Disk>(
+pub(crate) fn removes<D: Disk>(
     alloc: Global,
     disk: &mut D,
     leased: bool,
@@ -702,12 +755,26 @@ struct Row {
     expiry: u64,
 }
 
-// A map as rows at the keys from `FIRST_KEY` on, written anew and plainly.
+// Rows at the keys from `FIRST_KEY` on, and the index of their mark.
+#[derive(Clone, Copy, Debug)]
+struct Taken {
+    rows: [Option<Row>; 5],
+    last: u64,
+}
+
+// A map as such rows, written anew and plainly, with the snapshot that is stored, where that is known.
 #[derive(Clone, Copy, Debug)]
 struct Plain {
     rows: [Option<Row>; 5],
     last: u64,
+    taken: Option<Taken>,
 }
+
+const NO_ROW: Plain = Plain {
+    rows: [None; 5],
+    last: 0,
+    taken: None,
+};
 
 impl Plain {
     fn get(&self, key: u8) -> Option<Row> {
@@ -801,11 +868,42 @@ impl Plain {
         Ok(Rows::of(keys))
     }
 
+    fn take(&mut self) {
+        self.taken = Some(Taken {
+            rows: self.rows,
+            last: self.last,
+        });
+    }
+
+    fn put(&mut self, taken: Taken) {
+        self.rows = taken.rows;
+        self.last = taken.last;
+    }
+
+    fn install(&mut self, alloc: Global, moment: u64) -> Result<(), Error> {
+        if let Some(taken) = self.taken {
+            self.put(taken);
+        }
+        self.clean_up(alloc, moment.max(1))?;
+        Ok(())
+    }
+
     fn make(&mut self, alloc: Global, work: &Work) -> Result<Answer, Error> {
         match work {
-            Work::Chunk(writes) => Ok(Answer::Results(self.apply(alloc, writes.as_slice())?)),
-            Work::Cleanup(moment) => Ok(Answer::Removed(self.clean_up(alloc, *moment)?)),
+            Work::Chunk(writes) => return Ok(Answer::Results(self.apply(
+                alloc,
+                writes.as_slice(),
+            )?)),
+            Work::Cleanup(moment) => return Ok(Answer::Removed(self.clean_up(alloc, *moment)?)),
+            Work::Flush => {}
+            Work::Reset => self.put(Taken {
+                rows: [None; 5],
+                last: 0,
+            }),
+            Work::Generate => self.take(),
+            Work::Install(from) => self.install(alloc, from.moment)?,
         }
+        Ok(Answer::Done)
     }
 }
 
@@ -906,18 +1004,38 @@ impl Draws {
         expiry.saturating_sub(1).saturating_add(self.next() % 3)
     }
 
-    fn work(&mut self, alloc: Global, plain: &Plain) -> Result<Work, Error> {
-        if self.next() % 3 == 0 {
-            return Ok(Work::Cleanup(self.moment(plain)));
+    // Of the snapshot that is stored, at an expiry of its keys or beside it. A snapshot is stored where none is known.
+    fn install(&mut self, plain: &Plain) -> Work {
+        match plain.taken {
+            None => Work::Generate,
+            Some(taken) => {
+                let mut next = *plain;
+                next.put(taken);
+                let moment = self.moment(&next);
+                Work::Install(Install {
+                    last: taken.last,
+                    moment,
+                })
+            }
         }
-        Ok(Work::Chunk(self.chunk(alloc, plain.last)?))
+    }
+
+    fn work(&mut self, alloc: Global, plain: &Plain) -> Result<Work, Error> {
+        Ok(match self.next() % 16 {
+            0 => Work::Flush,
+            1 => Work::Reset,
+            2 => Work::Generate,
+            3..6 => self.install(plain),
+            6..9 => Work::Cleanup(self.moment(plain)),
+            _ => Work::Chunk(self.chunk(alloc, plain.last)?),
+        })
     }
 
     // A stop at rest, or one in the midst of the work, of the first choices or of any.
     fn stop(&mut self) -> Stop {
         let calls = match self.next() % 2 {
             0 => 100,
-            _ => self.next() % 12,
+            _ => self.next() % 40,
         };
         let choice = match self.next() % 3 {
             2 => self.next(),
@@ -941,7 +1059,7 @@ enum Turn {
     Wrong,
 }
 
-// What was answered is there, and what was not answered is there or not.
+// What was answered is there, and what was not answered is there or not. Behind a stop it is not known which snapshot is stored.
 fn make_turn(
     alloc: Global,
     disk: &mut MemDisk,
@@ -955,7 +1073,10 @@ fn make_turn(
     if opens_as_plain(alloc, disk, &next)? {
         *plain = next;
         return Ok(match answer {
-            None => Turn::Made,
+            None => {
+                plain.taken = None;
+                Turn::Made
+            }
             Some(answer) if answer == wanted => Turn::Answered,
             Some(_) => Turn::Wrong,
         });
@@ -967,13 +1088,10 @@ fn make_turn(
 }
 
 #[test]
-fn random_chunks(rt: HostRuntime) -> Result<(), Fail> {
+fn random_work(rt: HostRuntime) -> Result<(), Fail> {
     let alloc = rt.alloc();
     let mut disk = MemDisk::new(alloc);
-    let mut plain = Plain {
-        rows: [None; 5],
-        last: 0,
-    };
+    let mut plain = NO_ROW;
     let mut draws = Draws { state: 1 };
     let mut made = false;
     let mut lost = false;

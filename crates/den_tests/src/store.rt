@@ -41,6 +41,7 @@ enum Edit {
     Truncate(u64),
     Replace(u64, Pairs),
     Reset,
+    Flush,
 }
 
 // What a log has: its boundary, its entries, those of them from 3 up to 6, and its last index.
@@ -132,6 +133,7 @@ fn make<D: Disk, G: LogStore<D>>(
             replace(log, disk, from, entries_of(alloc, pairs)?.as_slice())
         }
         Edit::Reset => Ok(log.reset(disk)?),
+        Edit::Flush => Ok(log.flush(disk)?),
     }
 }
 
@@ -223,7 +225,7 @@ fn opens_a_log(rt: HostRuntime) -> Result<(), Fail> {
 }
 
 // Each row begins with what the one before it left.
-const ROWS: [([Edit; 2], Has); 9] = [
+const ROWS: [([Edit; 2], Has); 10] = [
     (
         [
             Edit::Persist(&[]),
@@ -306,6 +308,15 @@ const ROWS: [([Edit; 2], Has); 9] = [
             boundary: None,
             pairs: &[(3, 1), (5, 1)],
             middle: &[(3, 1), (5, 1)],
+            last: 5,
+        },
+    ),
+    (
+        [Edit::Flush, Edit::Purge(LogId { index: 4, term: 1 })],
+        Has {
+            boundary: Some(LogId { index: 4, term: 1 }),
+            pairs: &[(5, 1)],
+            middle: &[(5, 1)],
             last: 5,
         },
     ),
