@@ -1,5 +1,5 @@
-//! Snapshots of a state machine: the files that one is stored in, the map that it gives in another's place, and what is left
-//! where either is refused, stopped, or fails.
+//! Snapshots of a state machine: the files that one is stored in, the map that it gives in another's place, and what
+//! is left where either is refused, stopped, or fails.
 ghost use Rattle.den_journal.specs.Writes.{StoreStands};
 
 use crate::one_word::{Bytes, disk_of, put};
@@ -15,8 +15,8 @@ const MARK: LogId = LogId { index: 1, term: 1 };
 
 const LATER: LogId = LogId { index: 5, term: 2 };
 
-// The region of a = b of term 1 under the mark 1 of term 1, whose word has 58 bytes; the same behind which another runs past the
-// end; it twice; and it with a byte more in its word.
+// The region of a = b of term 1 under the mark 1 of term 1, whose word has 58 bytes; the same and another behind it
+// that runs past the end; it twice; and it with a byte more in its word.
 const REGION: &[u8] =
     b"\x01\0\0\0\0\0\0\0\x3a\0\0\0\0\0\0\0\x01\0\0\0\0\0\0\0\x01\0\0\0\0\0\0\0\x01\0\0\0\0\0\0\0\x01a\0\0\0\0\0\0\0\x01b\0\0\0\0\0\0\0\x01\0\0\0\0\0\0\0\0";
 
@@ -110,7 +110,8 @@ const NO_SNAPSHOT: [(Bytes, u8); 5] = [
     ),
 ];
 
-// The calls of the disk that an opening makes, and then a snapshot that is stored, and one that is put in the map's place.
+// The calls of the disk that an opening makes, and then those that store a snapshot, and those that put one in the
+// map's place.
 const OPENING_CALLS: u64 = 6;
 
 const STORING_CALLS: u64 = 17;
@@ -354,12 +355,12 @@ fn stores_over_files_that_cannot_be_read(rt: HostRuntime) -> Result<(), Fail> {
     Ok(())
 }
 
-// Whether a crash behind so many calls, of this choice, leaves the old map, where the snapshot was not put in its place, or
-// the new one.
+// Whether a crash behind so many calls, of this choice, leaves the old map or the new one, and the new one where the
+// call was answered.
 fn keeps_a_map(alloc: Global, calls: u64, choice: u64) -> Result<bool, Fail> {
     let mut disk = disk_with(alloc, STORED)?;
     disk.fuse(calls);
-    let done = installs_anew(alloc, &mut disk, CALL, NEW) == Ok(true);
+    let done = matches!(installs_anew(alloc, &mut disk, CALL, NEW), Ok(true));
     disk.crash(choice);
     let new = opens_with(alloc, &mut disk, NEW)?;
     let old = !new && opens_with(alloc, &mut disk, OLD)?;

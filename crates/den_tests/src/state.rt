@@ -1,5 +1,5 @@
-//! The state machine: worked rows of swaps, refusals, marks, a scan, leases, a reset and the bytes of regions, and random
-//! work with stops in its midst beside a plain list of rows.
+//! The state machine: worked rows of swaps, refusals, marks, a scan, leases, a reset and the bytes of regions, and
+//! random work with stops in its midst beside a plain list of rows.
 ghost use Rattle.std.specs.Prelude.{◌≡◌, [], IfSome, OnOk};
 ghost use Rattle.den_journal.specs.Writes.{StoreStands};
 
@@ -517,8 +517,8 @@ fn stores_the_mark(rt: HostRuntime) -> Result<(), Fail> {
     Ok(())
 }
 
-// Each chunk of one entry is a region of its record, a byte and a count in front of it, and a gate and a length in front
-// of that: 41 and 43 bytes in 59 and 61, and then a closed gate.
+// Each chunk of one entry is a region of its record, a byte and a count in front of it, and a gate and a length in
+// front of that: 41 and 43 bytes in 59 and 61, and then a closed gate.
 #[test]
 fn writes_a_region_of_one_record(rt: HostRuntime) -> Result<(), Fail> {
     let alloc = rt.alloc();
@@ -1059,7 +1059,8 @@ enum Turn {
     Wrong,
 }
 
-// What was answered is there, and what was not answered is there or not. Behind a stop it is not known which snapshot is stored.
+// What was answered is there, and what was not answered is there or not. Behind a stop it is not known which snapshot
+// is stored.
 fn make_turn(
     alloc: Global,
     disk: &mut MemDisk,
