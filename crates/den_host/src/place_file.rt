@@ -324,3 +324,120 @@ impl<F: OpenFile> Twelve<F> {
         self.snapshot.sync(Family::Snapshot)
     }
 }
+
+#[cfg(test)]
+mod tests {
+    use super::*;
+    use std::cell::Cell;
+    use std::fs::Metadata;
+    use std::test::Fail;
+
+    // A file that counts its syncs, of which one may fail.
+    #[derive(Drop)]
+    struct Counted<'a> {
+        syncs: &'a Cell<u32>,
+        failing: u32,
+    }
+
+    impl Counted<'_> {
+        fn sync(&self) -> io::Result<()> {
+            let number = self.syncs.get().saturating_add(1);
+            self.syncs.set(number);
+            if number == self.failing {
+                return Err(io::Error::from(ErrorKind::Other));
+            }
+            Ok(())
+        }
+    }
+
+    impl OpenFile for Counted<'_> {
+        fn metadata(&self) -> io::Result<Metadata> {
+            Ok(Metadata::of_file(0))
+        }
+
+        fn set_len(&self, _size: u64) -> io::Result<()> {
+            Ok(())
+        }
+
+        fn sync_all(&self) -> io::Result<()> {
+            self.sync()
+        }
+
+        fn sync_data(&self) -> io::Result<()> {
+            self.sync()
+        }
+    }
+
+    impl FileExt for Counted<'_> {
+        fn read_at(&self, _buf: &mut [u8], _offset: u64) -> io::Result<usize> {
+            Ok(0)
+        }
+
+        fn write_at(&self, buf: &[u8], _offset: u64) -> io::Result<usize> {
+            Ok(buf.len())
+        }
+    }
+
+    fn open_counted(syncs: &Cell<u32>, failing: u32) -> Option<PlaceFile<Counted<'_>>> {
+        Some(PlaceFile::new(Counted { syncs, failing }))
+    }
+
+    #[test]
+    fn syncs_what_was_written(rt: HostRuntime) -> Result<(), Fail> {
+        let (log, state) = (Cell::new(0), Cell::new(0));
+        let mut files = Twelve {
+            log: Three {
+                head: None,
+                a: open_counted(&log, 0),
+                b: None,
+            },
+            meta: Three::new(),
+            state: Three {
+                head: None,
+                a: None,
+                b: open_counted(&state, 0),
+            },
+            snapshot: Three::new(),
+        };
+        files.sync()?;
+        assert_eq!(rt;
+            (log.get(), state.get()),
+            (1, 1),
+            "what an earlier process left"
+        );
+        files.sync()?;
+        assert_eq!(rt; (log.get(), state.get()), (1, 1), "nothing");
+        let place = Place {
+            family: Family::Log,
+            part: Part::A,
+        };
+        if let Some(file) = files.at(place) {
+            file.write_at(0, b"gate")?;
+        }
+        files.sync()?;
+        assert_eq!(rt; (log.get(), state.get()), (2, 1), "one file");
+        let place = Place {
+            family: Family::State,
+            part: Part::B,
+        };
+        if let Some(file) = files.at(place) {
+            file.resize(9)?;
+        }
+        files.sync()?;
+        assert_eq!(rt; (log.get(), state.get()), (2, 2), "a resize has synced it");
+        Ok(())
+    }
+
+    #[test]
+    fn stays_lost_after_a_failed_sync(rt: HostRuntime) {
+        let syncs = Cell::new(0);
+        let mut files = Three {
+            head: open_counted(&syncs, 1),
+            a: None,
+            b: None,
+        };
+        assert!(rt; files.sync(Family::Log).is_err());
+        assert!(rt; files.sync(Family::Log).is_err());
+        assert_eq!(rt; syncs.get(), 1);
+    }
+}

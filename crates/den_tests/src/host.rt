@@ -5,27 +5,17 @@ use den_disk::{
     Source, SourceFault,
 };
 use den_host::{
-    Cause, FileSource, FolderDisk, FolderLock, HostClock, StandardDescriptors, StdLink, StdSink,
-    Why,
+    Cause, FileSource, FolderDisk, HostClock, StandardDescriptors, StdLink, StdSink, Why,
 };
 use std::alloc::{Allocator, Global};
-use std::cell::Cell;
 use std::fmt::Display;
-use std::fs::{Metadata, OpenFile, OpenOptions};
-use std::io::{ErrorKind, Input, Lines, Read, Seek, SeekFrom, Write};
-use std::os::unix::fs::FileExt;
-use std::rt::Files;
+use std::io::{ErrorKind, Input, Lines};
 use std::test::Fail;
 use std::{fs, io};
 
 const PLACE: Place = Place {
     family: Family::Log,
     part: Part::A,
-};
-
-const OTHER: Place = Place {
-    family: Family::State,
-    part: Part::B,
 };
 
 fn tells(alloc: Global, cause: Cause, text: &str) -> Result<bool, Fail> {
@@ -98,216 +88,6 @@ fn keeps_what_was_written(rt: HostRuntime) -> Result<(), Fail> {
     assert!(rt; is_filled(&mut again)? && again.moment() == 0);
     assert!(rt; again.read_at(PLACE, 1, &mut [0; 8]) == Err(DiskFault));
     fs::remove_dir_all(&rt, "kept")?;
-    Ok(())
-}
-
-// How often the two files were synced.
-#[derive(Drop)]
-struct Syncs {
-    place: Cell<u32>,
-    other: Cell<u32>,
-    // Those of all other files, and of the folder.
-    rest: Cell<u32>,
-}
-
-impl Syncs {
-    fn none() -> Syncs {
-        Syncs {
-            place: Cell::new(0),
-            other: Cell::new(0),
-            rest: Cell::new(0),
-        }
-    }
-
-    fn of(&self, path: &str) -> &Cell<u32> {
-        if path.ends_with("log.a") {
-            return &self.place;
-        }
-        if path.ends_with("state.b") {
-            return &self.other;
-        }
-        &self.rest
-    }
-}
-
-// A file of eight bytes, which keeps nothing and counts its syncs. One of them may fail.
-#[derive(Drop)]
-struct Counted<'a> {
-    syncs: &'a Cell<u32>,
-    failing: u32,
-}
-
-impl Counted<'_> {
-    fn sync(&self) -> io::Result<()> {
-        let number = self.syncs.get().saturating_add(1);
-        self.syncs.set(number);
-        if number == self.failing {
-            return Err(io::Error::from(ErrorKind::Other));
-        }
-        Ok(())
-    }
-}
-
-impl OpenFile for Counted<'_> {
-    fn metadata(&self) -> io::Result<Metadata> {
-        Ok(Metadata::of_file(8))
-    }
-
-    fn set_len(&self, _size: u64) -> io::Result<()> {
-        Ok(())
-    }
-
-    fn sync_all(&self) -> io::Result<()> {
-        self.sync()
-    }
-
-    fn sync_data(&self) -> io::Result<()> {
-        self.sync()
-    }
-}
-
-impl FileExt for Counted<'_> {
-    fn read_at(&self, _buf: &mut [u8], _offset: u64) -> io::Result<usize> {
-        Ok(0)
-    }
-
-    fn write_at(&self, buf: &[u8], _offset: u64) -> io::Result<usize> {
-        Ok(buf.len())
-    }
-}
-
-impl FolderLock for Counted<'_> {
-    fn take_lock(&self) -> io::Result<bool> {
-        Ok(true)
-    }
-}
-
-fn unsupported<T>() -> io::Result<T> {
-    Err(io::Error::from(ErrorKind::Unsupported))
-}
-
-impl Read for Counted<'_> {
-    fn read(&mut self, _buf: &mut [u8]) -> io::Result<usize> {
-        unsupported()
-    }
-}
-
-impl Write for Counted<'_> {
-    fn write(&mut self, _buf: &[u8]) -> io::Result<usize> {
-        unsupported()
-    }
-
-    fn flush(&mut self) -> io::Result<()> {
-        unsupported()
-    }
-}
-
-impl Seek for Counted<'_> {
-    fn seek(&mut self, _to: SeekFrom) -> io::Result<u64> {
-        unsupported()
-    }
-}
-
-// A runtime where each file is there.
-#[derive(Drop)]
-struct Counting<'a> {
-    syncs: &'a Syncs,
-    // Which sync of the first file fails.
-    failing: u32,
-}
-
-impl<'a> Files for Counting<'a> {
-    type File = Counted<'a>;
-
-    type Dir = Counted<'a>;
-
-    fn open_file(&self, _how: &OpenOptions, path: &str) -> io::Result<Counted<'a>> {
-        let failing = if path.ends_with("log.a") {
-            self.failing
-        } else {
-            0
-        };
-        Ok(Counted {
-            syncs: self.syncs.of(path),
-            failing,
-        })
-    }
-
-    fn open_dir(&self, _path: &str) -> io::Result<Counted<'a>> {
-        unsupported()
-    }
-
-    fn metadata(&self, _path: &str) -> io::Result<Metadata> {
-        Ok(Metadata::of_file(8))
-    }
-
-    fn symlink_metadata(&self, _path: &str) -> io::Result<Metadata> {
-        unsupported()
-    }
-
-    fn copy(&self, _from: &str, _to: &str) -> io::Result<u64> {
-        unsupported()
-    }
-
-    fn rename(&self, _from: &str, _to: &str) -> io::Result<()> {
-        unsupported()
-    }
-
-    fn remove_file(&self, _path: &str) -> io::Result<()> {
-        unsupported()
-    }
-
-    fn create_dir(&self, _path: &str) -> io::Result<()> {
-        unsupported()
-    }
-
-    fn remove_dir(&self, _path: &str) -> io::Result<()> {
-        unsupported()
-    }
-
-    fn remove_dir_all<B: Allocator>(&self, _alloc: B, _path: &str) -> io::Result<()> {
-        unsupported()
-    }
-}
-
-// Whether the disk's sync passes or fails, as it is told, and so often the two files were synced then.
-fn syncs_to<D: Disk>(disk: &mut D, syncs: &Syncs, passes: bool, place: u32, other: u32) -> bool {
-    let passed = disk.sync().is_ok();
-    passed == passes && syncs.place.get() == place && syncs.other.get() == other
-}
-
-// First what an earlier process left, then nothing, then one file; a resize has synced the other.
-fn syncs_what_was_written_in<D: Disk>(disk: &mut D, syncs: &Syncs) -> Result<bool, DiskFault> {
-    let first = syncs_to(disk, syncs, true, 1, 1) && syncs_to(disk, syncs, true, 1, 1);
-    write(disk, PLACE, 0, b"gate")?;
-    let second = syncs_to(disk, syncs, true, 2, 1);
-    resize(disk, OTHER, 9)?;
-    Ok(first && second && syncs.other.get() == 2 && syncs_to(disk, syncs, true, 2, 2))
-}
-
-#[test]
-fn syncs_what_was_written(rt: HostRuntime) -> Result<(), Fail> {
-    let syncs = Syncs::none();
-    let files = Counting {
-        syncs: &syncs,
-        failing: 0,
-    };
-    let mut disk = FolderDisk::new(files, String::from_str(rt.alloc(), "d")?);
-    assert!(rt; syncs_what_was_written_in(&mut disk, &syncs)?);
-    Ok(())
-}
-
-// A failed sync is not tried again.
-#[test]
-fn stays_lost_behind_a_failed_sync(rt: HostRuntime) -> Result<(), Fail> {
-    let syncs = Syncs::none();
-    let files = Counting {
-        syncs: &syncs,
-        failing: 1,
-    };
-    let mut disk = FolderDisk::new(files, String::from_str(rt.alloc(), "d")?);
-    assert!(rt; syncs_to(&mut disk, &syncs, false, 1, 0));
-    assert!(rt; syncs_to(&mut disk, &syncs, false, 1, 0));
     Ok(())
 }
 
