@@ -79,3 +79,29 @@ pub(crate) fn noted<T>(kept: &mut Option<Cause>, call: Result<T, Cause>) -> Resu
     }
     call
 }
+
+#[cfg(test)]
+mod tests {
+    use super::*;
+    use den_disk::{Family, Part};
+    use std::test::Fail;
+
+    #[test]
+    fn tells_place_and_error(rt: HostRuntime) -> Result<(), Fail> {
+        let place = Place {
+            family: Family::Log,
+            part: Part::A,
+        };
+        let full = Cause::Call(Some(place), Why::System(28));
+        assert_eq!(rt;
+            full.to_string(rt.alloc())?.as_str(),
+            "log.a: No space left on device (os error 28)"
+        );
+        let lost = Cause::Sync(None, Why::Kind(ErrorKind::Other));
+        assert_eq!(rt;
+            lost.to_string(rt.alloc())?.as_str(),
+            "the folder: a sync failed: other error"
+        );
+        Ok(())
+    }
+}

@@ -57,3 +57,26 @@ fn read_file<R: Files>(
     }
     read_once(file.insert(fs::open(rt, path)?), buf)
 }
+
+#[cfg(test)]
+mod tests {
+    use super::*;
+    use std::test::Fail;
+
+    #[test]
+    fn reads_a_file(rt: HostRuntime) -> Result<(), Fail> {
+        fs::write(&rt, "server.toml", "a = 1")?;
+        let mut source = FileSource::new(rt, String::from_str(rt.alloc(), "server.toml")?);
+        let mut buf = [0u8; 4];
+        assert_eq!(rt; source.read(&mut buf)?, Piece::Got(4));
+        assert_eq!(rt; source.read(&mut buf)?, Piece::Got(1));
+        assert_eq!(rt; buf.as_slice(), b"1 = ".as_slice());
+        assert_eq!(rt; source.read(&mut buf)?, Piece::End);
+
+        let mut missing = FileSource::new(rt, String::from_str(rt.alloc(), "missing.toml")?);
+        assert_eq!(rt; missing.read(&mut buf), Err(SourceFault));
+        assert_eq!(rt; missing.faults, 1);
+        fs::remove_file(&rt, "server.toml")?;
+        Ok(())
+    }
+}

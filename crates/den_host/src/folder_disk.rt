@@ -318,3 +318,43 @@ fn make_one<R: Files>(rt: &R, made: Path<'_>, parent: Path<'_>) -> Result<(), Ca
         }
     }
 }
+
+#[cfg(test)]
+mod tests {
+    use super::*;
+    use den_disk::{Family, Part};
+    use std::test::Fail;
+
+    const PLACE: Place = Place {
+        family: Family::Log,
+        part: Part::A,
+    };
+
+    #[test]
+    fn keeps_what_was_written(rt: HostRuntime) -> Result<(), Fail> {
+        let _ = fs::remove_dir_all(&rt, "kept");
+        let mut disk = FolderDisk::new(rt, String::from_str(rt.alloc(), "kept/store")?);
+        assert_eq!(rt; disk.len(PLACE)?, 0);
+        assert!(rt; !fs::exists(&rt, "kept/store/log.a")?);
+        disk.resize(PLACE, 8)?;
+        disk.write_at(PLACE, 2, b"abc")?;
+        disk.sync()?;
+        let mut second = FolderDisk::new(rt, String::from_str(rt.alloc(), "kept/store")?);
+        assert_eq!(rt; second.len(PLACE), Err(DiskFault));
+        assert!(rt; matches!(second.cause(), Some(Cause::InUse)));
+        let moment = disk.moment();
+        drop(disk);
+
+        let mut again = FolderDisk::new(rt, String::from_str(rt.alloc(), "kept/store")?);
+        assert_eq!(rt; again.len(PLACE)?, 8);
+        let mut bytes = [9u8; 8];
+        again.read_at(PLACE, 0, &mut bytes)?;
+        assert_eq!(rt; bytes.as_slice(), b"\0\0abc\0\0\0".as_slice());
+        assert_eq!(rt; again.faults, 0);
+        assert_eq!(rt; again.read_at(PLACE, 1, &mut bytes), Err(DiskFault));
+        assert_eq!(rt; again.faults, 1);
+        assert_eq!(rt; (moment, again.moment()), (3, 0));
+        fs::remove_dir_all(&rt, "kept")?;
+        Ok(())
+    }
+}

@@ -41,3 +41,14 @@ impl<R: time::Clock> Clock for HostClock<R> {
         }
     }
 }
+
+#[cfg(test)]
+mod tests {
+    use super::*;
+
+    #[test]
+    fn reads_a_time_after_2020(rt: HostRuntime) {
+        let mut clock = HostClock::new(rt);
+        assert!(rt; clock.now() > 1_600_000_000_000);
+    }
+}

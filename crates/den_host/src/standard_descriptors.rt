@@ -25,3 +25,15 @@ impl<F> StandardDescriptors<F> {
 }
 
 const NULL_DEVICE: &str = "/dev/null";
+
+#[cfg(test)]
+mod tests {
+    use super::*;
+    use std::test::Fail;
+
+    #[test]
+    fn opens_the_null_device(rt: HostRuntime) -> Result<(), Fail> {
+        let _held = StandardDescriptors::hold(&rt)?;
+        Ok(())
+    }
+}

@@ -92,3 +92,87 @@ fn read_input<R: Input + Alloc>(
     let reader = BufReader::with_capacity(rt.alloc(), ROOM, rt.reader())?;
     read_once(input.insert(reader), buf)
 }
+
+#[cfg(test)]
+mod tests {
+    use super::*;
+    use den_disk::MemDisk;
+    use std::alloc::{Allocator, Global};
+    use std::fmt::Display;
+    use std::io::Lines;
+    use std::test::Fail;
+
+    // A runtime with an input of its own, whose output is a broken pipe.
+    #[derive(Drop)]
+    struct Piped {
+        rt: HostRuntime,
+    }
+
+    impl Input for Piped {
+        type Reader = &'static [u8];
+
+        fn read_line<A: Allocator + Clone>(&self, _buf: &mut String<A>) -> io::Result<usize> {
+            Ok(0)
+        }
+
+        fn lines<A: Allocator>(&self, alloc: A) -> Lines<&'static [u8], A> {
+            io::BufRead::lines(self.reader(), alloc)
+        }
+
+        fn reader(&self) -> &'static [u8] {
+            b"abcdef"
+        }
+    }
+
+    impl Print for Piped {
+        fn print<D: Display + Drop>(&self, _value: D) -> io::Result<()> {
+            Err(io::Error::from(ErrorKind::BrokenPipe))
+        }
+
+        fn println<D: Display + Drop>(&self, _value: D) -> io::Result<()> {
+            Err(io::Error::from(ErrorKind::BrokenPipe))
+        }
+
+        fn write_all(&self, _bytes: &[u8]) -> io::Result<()> {
+            Err(io::Error::from(ErrorKind::BrokenPipe))
+        }
+    }
+
+    impl Alloc for Piped {
+        type A = Global;
+
+        fn alloc(&self) -> Global {
+            self.rt.alloc()
+        }
+    }
+
+    #[test]
+    fn takes_its_input_in_pieces(rt: HostRuntime) -> Result<(), Fail> {
+        let mut link = StdLink::new(Piped { rt });
+        let mut buf = [0u8; 4];
+        assert_eq!(rt; link.read(&mut buf)?, Piece::Got(4));
+        assert_eq!(rt; buf.as_slice(), b"abcd".as_slice());
+        assert_eq!(rt; link.read(&mut buf)?, Piece::Got(2));
+        assert_eq!(rt; buf.as_slice(), b"efcd".as_slice());
+        assert_eq!(rt; link.read(&mut buf)?, Piece::End);
+        assert_eq!(rt; link.taken, 6);
+        Ok(())
+    }
+
+    #[test]
+    fn counts_a_broken_pipe(rt: HostRuntime) {
+        let disk = MemDisk::new(rt.alloc());
+        let mut link = StdLink::new(Piped { rt });
+        assert_eq!(rt; link.send(b"reply", &disk), Err(LinkFault));
+        assert_eq!(rt; link.faults, 1);
+        assert!(rt; matches!(link.cause(), Some(Cause::Output(_))));
+    }
+
+    #[test]
+    fn sends_to_standard_output(rt: HostRuntime) -> Result<(), Fail> {
+        let disk = MemDisk::new(rt.alloc());
+        let mut link = StdLink::new(rt);
+        link.send(b"a line on standard output\n", &disk)?;
+        Ok(())
+    }
+}

@@ -34,3 +34,23 @@ impl<W: Write> Sink for StdSink<W> {
         counted(&mut self.faults, written, SinkFault)
     }
 }
+
+#[cfg(test)]
+mod tests {
+    use super::*;
+    use std::test::Fail;
+
+    #[test]
+    fn writes_a_line(rt: HostRuntime) -> Result<(), Fail> {
+        let mut kept = StdSink::new(Vec::new(rt.alloc()));
+        kept.write(b"den_server: ")?;
+        kept.write(b"storage fault\n")?;
+        assert_eq!(rt;
+            kept.stderr.as_slice(),
+            b"den_server: storage fault\n".as_slice()
+        );
+        let mut shown = StdSink::new(rt.stderr());
+        shown.write(b"a line on standard error\n")?;
+        Ok(())
+    }
+}

@@ -17,12 +17,7 @@ const META: Place = Place {
 };
 
 // Writes where there is room for it, behind a call that asks for the length.
-pub(crate) fn write<D: Disk>(
-    disk: &mut D,
-    place: Place,
-    at: u64,
-    bytes: &[u8],
-) -> Result<(), DiskFault> {
+fn write<D: Disk>(disk: &mut D, place: Place, at: u64, bytes: &[u8]) -> Result<(), DiskFault> {
     let len = disk.len(place)?;
     if at <= len && bytes.len() as u64 <= len - at {
         return disk.write_at(place, at, bytes);
@@ -56,7 +51,7 @@ fn reads_two<D: Disk>(
 }
 
 // The length behind a resize, to the limit at most.
-pub(crate) fn resize<D: Disk>(disk: &mut D, place: Place, len: u64) -> Result<u64, DiskFault> {
+fn resize<D: Disk>(disk: &mut D, place: Place, len: u64) -> Result<u64, DiskFault> {
     let len = len.min(disk.limit());
     disk.resize(place, len)?;
     disk.len(place)
@@ -173,11 +168,7 @@ fn fails_where_it_is_told(rt: HostRuntime) -> Result<(), Fail> {
 }
 
 // Whether a read gives this piece, and puts these bytes in front of two.
-pub(crate) fn gives<L: Link>(
-    link: &mut L,
-    piece: Piece,
-    bytes: [u8; 2],
-) -> Result<bool, LinkFault> {
+fn gives<L: Link>(link: &mut L, piece: Piece, bytes: [u8; 2]) -> Result<bool, LinkFault> {
     let mut buffer = *b"00";
     Ok(link.read(&mut buffer)? == piece && buffer == bytes)
 }
@@ -267,7 +258,7 @@ fn reads<S: Source>(source: &mut S, mut buffer: [u8; 2], piece: Piece, bytes: [u
     source.read(&mut buffer) == Ok(piece) && buffer == bytes
 }
 
-pub(crate) fn reads_to_the_end<S: Source>(source: &mut S) -> bool {
+fn reads_to_the_end<S: Source>(source: &mut S) -> bool {
     reads(source, *b"00", Piece::Got(2), *b"ab")
         && reads(source, *b"ab", Piece::Got(1), *b"cb")
         && reads(source, *b"cb", Piece::End, *b"cb")

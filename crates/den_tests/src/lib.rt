@@ -7,8 +7,6 @@ mod disk;
 #[cfg(test)]
 mod gate;
 #[cfg(test)]
-mod host;
-#[cfg(test)]
 mod install;
 #[cfg(test)]
 mod lease;
