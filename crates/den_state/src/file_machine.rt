@@ -460,11 +460,7 @@ impl<D: Disk> StateMachine<D> for FileStateMachine {
     }
 
     /// Writes the snapshot's word as the one region of the Snapshot family's files.
-    fn generate_snapshot_data(
-        &mut self,
-        disk: &mut D,
-        last_included: LogId,
-    ) -> Result<Blob, Error>
+    fn generate_snapshot_data(&mut self, disk: &mut D, last_included: LogId) -> Result<Blob, Error>
         requires stands { StoreStands D.Disk (state_shown self.old) disk.old }
         ensures generates { Generates D.Disk (state_shown self.old) (state_shown self.new) disk.old disk.new (taken_of last_included (state_map self.old)) result }
         ensures map { state_map self.new ≡ state_map self.old }
