@@ -876,7 +876,8 @@ impl Plain {
     }
 
     fn put(&mut self, taken: Taken) {
-        self.rows = taken.rows;
+        let rows = taken.rows;
+        self.rows = rows;
         self.last = taken.last;
     }
 
