@@ -1,7 +1,7 @@
 -- When a disk may be told to be full.
 use Rattle.std.specs.Prelude.{ℕ, ◌<◌, ◌*◌}
 use Rattle.den_codec.specs.declared.error.Error.{Error}
-use Rattle.den_codec.specs.declared.error.Error.TheVariants.{OutOfMemory, StorageIoError, DiskFull, LinkFault, DataCorruption, FeatureNotEnabled, ProposeFailed, UnorderedChunk, Config, StateMachineError}
+use Rattle.den_codec.specs.declared.error.Error.TheVariants.{OutOfMemory, StorageIoError, DiskFull, LinkFault, DataCorruption, FeatureNotEnabled, ProposeFailed, UnorderedChunk, Config, ConfigFault, StateMachineError}
 
 -- only where four times this weight, of what was handed in so far, is above the limit of a file
 abbrev pub IsHeavy : (most weight : ℕ) → Error → Type 0
@@ -14,4 +14,5 @@ IsHeavy most weight FeatureNotEnabled = Unit {0}
 IsHeavy most weight ProposeFailed = Unit {0}
 IsHeavy most weight (UnorderedChunk index) = Unit {0}
 IsHeavy most weight (Config place) = Unit {0}
+IsHeavy most weight ConfigFault = Unit {0}
 IsHeavy most weight StateMachineError = Unit {0}

@@ -1,5 +1,5 @@
 -- The default configuration, and what a run begins with under a configuration.
-use Rattle.std.specs.Prelude.{◌≡◌, ℕ, pos, false, List, [], ◌∷◌, None, codes}
+use Rattle.std.specs.Prelude.{◌≡◌, ℕ, pos, false, List, [], ◌∷◌, Some, None, codes}
 use Rattle.den_model.specs.declared.reply.NodeMeta.{NodeMeta}
 use Rattle.den_model.specs.declared.running.Running.{Running}
 use Rattle.den_model.specs.declared.running.Setting.{Setting}
@@ -28,12 +28,12 @@ pub record IsStandard (c : RaftNodeConfig) : Type 0 where
   pub base : c.retry.base_delay_ms ≡ 100
   pub greatest : c.retry.max_delay_ms ≡ 1000
 
--- the setting of a core that leads alone, whose leases are not carried out
+-- the setting of a core that leads alone
 abbrev pub solo_setting : RaftNodeConfig → Setting
 solo_setting c = record {
   role = pos 2;
   hint = None;
-  lease = false;
+  lease = c.raft.lease.enabled;
   interval = c.raft.lease.cleanup_interval_ms;
   maximum = c.raft.watch.max_watcher_count;
   buffer = c.raft.watch.watcher_buffer_size;
@@ -41,7 +41,7 @@ solo_setting c = record {
 
 -- the run's part as a run begins
 abbrev pub running_of : RaftNodeConfig → Running
-running_of c = running_at_entry (solo_setting c) c.cluster.initial_cluster c.cluster.node_id
+running_of c = running_at_entry (solo_setting c) c.cluster.initial_cluster (Some c.cluster.node_id)
 
 -- what a run begins with, where the files stand for this durable part
 abbrev pub entered : RaftNodeConfig → Durable → Kv

@@ -2,7 +2,7 @@
 ghost use Rattle.std.specs.Prelude.{◌≡◌, ◌≤◌, IsTrue, IfOk, IfErr, is_ok};
 ghost use Rattle.den_codec.specs.Nodes.{has_id, ids_differ, is_cluster, fits_solo, is_solo};
 ghost use Rattle.den_codec.specs.declared.error.Error.TheVariants.{Config};
-ghost use Rattle.den_codec.specs.declared.error.ConfigPlace.TheVariants.{InitialCluster};
+ghost use Rattle.den_codec.specs.declared.config_place.ConfigPlace.TheVariants.{InitialCluster};
 
 use crate::{ConfigPlace, Error};
 use den_model::{Label, NodeMeta, Rows};

@@ -1,15 +1,10 @@
 //! Why a call ends early.
 ghost use Rattle.std.specs.Prelude.{◌≡◌};
-ghost use Rattle.den_codec.specs.declared.error.Error.TheVariants.{OutOfMemory, StorageIoError, LinkFault};
+ghost use Rattle.den_codec.specs.declared.error.Error.TheVariants.{OutOfMemory, StorageIoError, LinkFault, Config, ConfigFault};
 
+use crate::ConfigPlace;
 use std::alloc::{AllocError, AllocFailed};
 use thiserror::Error;
-
-/// Where a configuration is not valid.
-#[derive(Clone, Copy, Debug, PartialEq, Eq)]
-pub enum ConfigPlace {
-    InitialCluster,
-}
 
 /// Why a call ends early, one variant a cause.
 #[derive(Clone, Copy, Debug, PartialEq, Eq, Error)]
@@ -33,8 +28,11 @@ pub enum Error {
     /// The entry of this index does not stand above the one before it.
     #[error("entry {index} is out of order")]
     UnorderedChunk { index: u64 },
-    #[error("bad configuration")]
+    /// The configuration is not valid at this place.
+    #[error("bad configuration at {}", .0.key())]
     Config(ConfigPlace),
+    #[error("configuration cannot be read")]
+    ConfigFault,
     /// The bytes are no word of a state machine's part.
     #[error("state machine error")]
     StateMachineError,
@@ -69,5 +67,21 @@ impl From<den_disk::DiskFault> for Error {
 
     fn from(_: den_disk::DiskFault) -> Self {
         Error::StorageIoError
+    }
+}
+
+impl From<den_disk::SourceFault> for Error {
+    ghost from_gives = { λ _ e. e ≡ ConfigFault };
+
+    fn from(_: den_disk::SourceFault) -> Self {
+        Error::ConfigFault
+    }
+}
+
+impl From<ConfigPlace> for Error {
+    ghost from_gives = { λ place e. e ≡ Config place };
+
+    fn from(place: ConfigPlace) -> Self {
+        Error::Config(place)
     }
 }

@@ -17,6 +17,7 @@
 #![tactic(auto)]
 
 mod config;
+mod config_place;
 mod error;
 mod fields;
 mod log_words;
@@ -32,15 +33,16 @@ pub use config::{
     BackoffPolicy, ClusterConfig, LeaseConfig, NetworkConfig, RaftConfig, RaftNodeConfig,
     SoloConfig, WatchConfig,
 };
+pub use config_place::ConfigPlace;
 pub use den_model::{
     ApplyResult, Blob, ClientReadRequest, ClientResponse, ClientResponsePayload,
     ClientWriteRequest, ClusterMembership, Command, Entry, ErrorCode, Frame, HardState, Held,
-    JournalRecord, KvEntry, Label, LeaderHint, LogId, LogRegion, NewEntries, NodeMeta, Positive,
-    ReadConsistencyPolicy, Refusal, Replacement, Reply, Request, Rows, Running, ScanResult,
-    Setting, StateRegion, StoredPair, VotedFor, WatchEvent, WatchEventType, Watcher,
+    JournalRecord, KvEntry, Label, LeaderHint, LeaderInfo, LogId, LogRegion, NewEntries, NodeMeta,
+    Positive, ReadConsistencyPolicy, Refusal, Replacement, Reply, Request, Rows, Running,
+    ScanResult, Setting, StateRegion, StoredPair, VotedFor, WatchEvent, WatchEventType, Watcher,
     WriteOperation,
 };
-pub use error::{ConfigPlace, Error};
+pub use error::Error;
 pub use reads::ReadError;
 pub use request_words::read_request;
 pub use state_words::write_records;

@@ -15,5 +15,7 @@ pub mod Grown
 pub mod Order
 pub mod Rising
 pub mod Tail
+pub mod WorkedLeases
+pub mod WorkedRequests
 pub mod WorkedRuns
 pub mod WorkedImages

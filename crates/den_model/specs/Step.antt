@@ -1,5 +1,5 @@
 -- One step of the system: what it becomes, what it replies, which events it raises, and which entries it logs.
-use Rattle.std.specs.Prelude.{ℕ, ◌+◌, ◌-◌, ◌^◌, ◌==◌, ◌&&◌, ◌||◌, not, ℤ, pos, negsuc, Bool, true, false, List, [], ◌∷◌, ◌++◌, length, take, max, map, Option, Some, None, nat_le, nat_eq, if◌then◌else◌, unwrap_or, is_none, is_some, filter, filter_map, option_map}
+use Rattle.std.specs.Prelude.{ℕ, ◌+◌, ◌-◌, ◌^◌, ◌==◌, ◌&&◌, ◌||◌, not, ℤ, pos, negsuc, Bool, true, false, List, [], ◌∷◌, ◌++◌, length, take, max, map, Option, Some, None, nat_le, nat_eq, if◌then◌else◌, unwrap_or, is_some, filter, filter_map, option_map}
 use Rattle.std.specs.Cmp.Lexicographic.{pointwise}
 use Rattle.std.specs.List.{starts_with, ends_with}
 use Rattle.den_model.specs.declared.command.Command.{Command}
@@ -137,8 +137,8 @@ has_ttl (command.Insert key value ttl_secs) = is_some ttl_secs
 has_ttl (command.Delete key) = false
 has_ttl (command.CompareAndSwap key expected value) = false
 
-abbrev pub carried : Kv → ℕ → Command → Outcome
-carried s moment c = record {
+abbrev pub committed : Kv → ℕ → Command → Outcome
+committed s moment c = record {
   after = put_through s (next_entry s moment c);
   reply = Some (answered (payload.Write (succeeds s.durable c)));
   events = elim (change_of s.durable (s.durable.last_index + 1) c) [ None ↦ [] | Some change ↦ events_of s.running.watchers change ];
@@ -150,7 +150,7 @@ write s moment c =
     if not (leads s) then not_leader s
     else if has_ttl c && not s.running.setting.lease then says s (reply.Refused refusal.FeatureNotEnabled)
     else if s.durable.last_index == 2 ^ 64 - 1 then says s (failed code.ProposeFailed None)
-    else carried s moment c
+    else committed s moment c
 
 abbrev pub may_be_old : Option ReadConsistencyPolicy → Bool
 may_be_old None = false
@@ -159,12 +159,12 @@ may_be_old (Some LeaseRead) = false
 may_be_old (Some EventualConsistency) = true
 
 -- the pair at the key
-abbrev pub pair_at : Durable → List ℕ → Option KvEntry
-pair_at d key = option_map (λ value. record { key = key; value = value }) (value_at d key)
+abbrev pub held_pair : Durable → List ℕ → Option KvEntry
+held_pair d key = option_map (λ value. record { key = key; value = value }) (value_at d key)
 
 abbrev pub read : Kv → Option ReadConsistencyPolicy → List (List ℕ) → Outcome
 read s policy keys =
-    if leads s || may_be_old policy then says s (answered (payload.Read (filter_map (pair_at s.durable) keys)))
+    if leads s || may_be_old policy then says s (answered (payload.Read (filter_map (held_pair s.durable) keys)))
     else not_leader s
 
 -- the pairs whose key begins with the prefix, in the order of their keys
@@ -219,18 +219,11 @@ answer_to s moment (request.Members client_id) = says s (reply.Members (record s
 
 -- ---- what this version answers
 
--- the operations that it carries out: a put without a time to live, and a delete
-abbrev pub is_built_operation : Option WriteOperation → Bool
-is_built_operation None = false
-is_built_operation (Some (operation.Insert key value ttl_secs)) = is_none ttl_secs
-is_built_operation (Some (operation.Delete key)) = true
-is_built_operation (Some (operation.CompareAndSwap key expected new_value)) = false
-
--- the requests that it answers: those operations, and a read of one key
+-- the requests that it answers: writes, reads and scans
 abbrev pub is_built : Request → Bool
-is_built (request.Write w) = is_built_operation w.command
-is_built (request.Read r) = length r.keys == 1
-is_built (request.Scan client_id prefix) = false
+is_built (request.Write w) = true
+is_built (request.Read r) = true
+is_built (request.Scan client_id prefix) = true
 is_built (request.Watch client_id prefix prev_kv key) = false
 is_built (request.Members client_id) = false
 
@@ -238,9 +231,9 @@ is_built (request.Members client_id) = false
 abbrev pub not_built : Kv → Outcome
 not_built s = says s (reply.Refused refusal.NotBuilt)
 
--- A request that is not built yet is refused by name, and so is a bad frame.
+-- A bad frame is an invalid request, and a request that is not built yet is refused by name.
 abbrev pub answer : Kv → ℕ → Frame → Outcome
-answer s moment Bad = not_built s
+answer s moment Bad = invalid s
 answer s moment (Good r) = if is_built r then answer_to s moment r else not_built s
 
 abbrev pub silent : Kv → Outcome

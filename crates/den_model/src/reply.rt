@@ -46,6 +46,13 @@ pub struct LeaderHint {
     pub address: Label,
 }
 
+/// The node that leads, and the term in which it does.
+#[derive(Clone, Copy, Debug, PartialEq, Eq)]
+pub struct LeaderInfo {
+    pub leader_id: u32,
+    pub term: u64,
+}
+
 /// A key and its value.
 #[derive(Debug, Drop, PartialEq, Eq)]
 pub struct KvEntry {

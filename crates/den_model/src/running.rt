@@ -1,5 +1,5 @@
 //! The run's part of what the system holds: who watches, the members, and the setting.
-ghost use Rattle.std.specs.Prelude.{◌≡◌, pos, Some, None, false};
+ghost use Rattle.std.specs.Prelude.{◌≡◌};
 ghost use Rattle.den_model.specs.Kv.{running_at_entry};
 
 use crate::{Blob, ClusterMembership, LeaderHint, NodeMeta, Rows};
@@ -42,28 +42,16 @@ pub struct Running {
     pub setting: Setting,
 }
 
-impl Setting {
-    /// Of one voter, which leads: without a lease, with so many milliseconds between two cleanups, so many watchers at
-    /// most, and so many events that wait for one watcher.
-    pub fn solo(interval: u64, maximum: u32, buffer: u32) -> Setting
-        ensures { result ≡ record { role = pos 2; hint = None; lease = false; interval = interval; maximum = maximum; buffer = buffer } }
-    {
-        Setting {
-            role: 2,
-            hint: None,
-            lease: false,
-            interval,
-            maximum,
-            buffer,
-        }
-    }
-}
-
 impl Running {
-    /// What a run begins with: nobody watches, nothing was cleaned, and the members are the configured nodes, led by
-    /// this one.
-    pub fn at_entry(alloc: Global, setting: Setting, nodes: Rows<NodeMeta>, node_id: u32) -> Running
-        ensures { result ≡ running_at_entry setting nodes node_id }
+    /// What a run begins with: nobody watches, nothing was cleaned, and the members are the configured nodes under this
+    /// leader.
+    pub fn at_entry(
+        alloc: Global,
+        setting: Setting,
+        nodes: Rows<NodeMeta>,
+        leader: Option<u32>,
+    ) -> Running
+        ensures { result ≡ running_at_entry setting nodes leader }
     {
         Running {
             watchers: Rows::of(Vec::new(alloc)),
@@ -72,7 +60,7 @@ impl Running {
             members: ClusterMembership {
                 version: 0,
                 nodes,
-                current_leader_id: Some(node_id),
+                current_leader_id: leader,
             },
             setting,
         }
