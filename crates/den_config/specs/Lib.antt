@@ -1,6 +1,6 @@
-pub mod Keys
 pub mod Places
 pub mod Values
 pub mod Nodes
 pub mod Refusals
 pub mod Rows
+pub mod Sources

@@ -2,10 +2,10 @@
 use Rattle.std.specs.Prelude.{ℕ, Bool, true, false, List, [], ◌∷◌, Option, Some, None, is_some}
 use Rattle.toml.specs.Data.{Data, get, as_table}
 use Rattle.toml.specs.View.{view}
-use Rattle.den_config.specs.declared.key.ConfigKey.{ConfigKey}
+use Rattle.den_codec.specs.declared.config_place.ConfigPlace.{ConfigPlace}
 use Rattle.den_config.specs.declared.place.Place.{Place}
 use Rattle.den_config.specs.declared.place.Place.TheVariants.{Missing, Holds, Blocked}
-use Rattle.den_config.specs.Keys.{path}
+use Rattle.den_codec.specs.ConfigPlaces.{path}
 
 -- what stands where a key leads: nothing, a value, or no table where one is to hold the key
 pub data Standing : Type 0 where
@@ -37,5 +37,5 @@ along [] at = at
 along (key ∷ keys) at = along keys (below key at)
 
 -- the place of a key of the configuration, below the root's table
-unfoldable pub place : ConfigKey → Data → Standing
+unfoldable pub place : ConfigPlace → Data → Standing
 place key root = along (path key) (holds root)

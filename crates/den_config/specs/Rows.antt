@@ -9,8 +9,8 @@ use Rattle.den_codec.specs.declared.config.RaftConfig.{RaftConfig}
 use Rattle.den_codec.specs.declared.config.LeaseConfig.{LeaseConfig}
 use Rattle.den_codec.specs.declared.config.WatchConfig.{WatchConfig}
 use Rattle.den_codec.specs.declared.config.BackoffPolicy.{BackoffPolicy}
-use Rattle.den_config.specs.declared.key.ConfigKey.{ConfigKey}
-use Rattle.den_config.specs.declared.key.ConfigKey.TheVariants.{Text, NodeId, DbRootDir, Timeout, LeaseEnabled, CleanupInterval, CleanupDuration, MaxWatchers, WatcherBuffer, MaxLogEntries, Zombie, MaxFrame}
+use Rattle.den_codec.specs.declared.config_place.ConfigPlace.{ConfigPlace}
+use Rattle.den_codec.specs.declared.config_place.ConfigPlace.TheVariants.{Text, NodeId, DbRootDir, Timeout, LeaseEnabled, CleanupInterval, CleanupDuration, MaxWatchers, WatcherBuffer, MaxLogEntries, Zombie, MaxFrame}
 use Rattle.den_config.specs.Nodes.{cluster_nodes}
 use Rattle.den_config.specs.Places.{place}
 use Rattle.den_config.specs.Refusals.{and_then}
@@ -80,11 +80,11 @@ values_of c = record {
 }
 
 -- what a key gives: the value that its test finds, or the default where the key is missing
-unfoldable pub row : {A : Type 0} → ConfigKey → A → (Data → Option A) → Data → Result A ConfigKey
+unfoldable pub row : {A : Type 0} → ConfigPlace → A → (Data → Option A) → Data → Result A ConfigPlace
 row key default test root = ok_or (value_or default test (place key root)) key
 
 -- the node, its cluster, and the folder of its files
-unfoldable pub cluster_of : Data → Result ClusterValues ConfigKey
+unfoldable pub cluster_of : Data → Result ClusterValues ConfigPlace
 cluster_of root =
     and_then (row NodeId 1 (between 0 4294967295) root) (λ node_id.
     and_then (cluster_nodes node_id root) (λ nodes.
@@ -92,7 +92,7 @@ cluster_of root =
     Ok (record { node_id = node_id; initial_cluster = nodes; db_root_dir = folder }))))
 
 -- the leases
-unfoldable pub lease_of : Data → Result LeaseValues ConfigKey
+unfoldable pub lease_of : Data → Result LeaseValues ConfigPlace
 lease_of root =
     and_then (row LeaseEnabled false as_bool root) (λ enabled.
     and_then (row CleanupInterval 1000 (at_least 1) root) (λ interval.
@@ -100,14 +100,14 @@ lease_of root =
     Ok (record { enabled = enabled; cleanup_interval_ms = interval; max_cleanup_duration_ms = duration }))))
 
 -- the watchers
-unfoldable pub watch_of : Data → Result WatchValues ConfigKey
+unfoldable pub watch_of : Data → Result WatchValues ConfigPlace
 watch_of root =
     and_then (row MaxWatchers 1000 (between 0 4294967295) root) (λ count.
     and_then (row WatcherBuffer 64 (between 1 4294967295) root) (λ size.
     Ok (record { max_watcher_count = count; watcher_buffer_size = size })))
 
 -- what the log, the leases and the watchers may take
-unfoldable pub raft_of : Data → Result RaftValues ConfigKey
+unfoldable pub raft_of : Data → Result RaftValues ConfigPlace
 raft_of root =
     and_then (row Timeout 1000 (at_least 0) root) (λ timeout.
     and_then (lease_of root) (λ leases.
@@ -121,7 +121,7 @@ abbrev pub standard_retry : RetryValues
 standard_retry = record { max_retries = 3; base_delay_ms = 100; max_delay_ms = 1000 }
 
 -- the configuration that a table gives, or the first key whose test fails
-unfoldable pub config_of : Data → Result ConfigValues ConfigKey
+unfoldable pub config_of : Data → Result ConfigValues ConfigPlace
 config_of root =
     and_then (cluster_of root) (λ nodes.
     and_then (raft_of root) (λ limits.
@@ -129,14 +129,14 @@ config_of root =
     Ok (record { cluster = nodes; raft = limits; max_frame_size = size; retry = standard_retry }))))
 
 -- a table that was read
-abbrev pub table_of : Option Members → Result Data ConfigKey
+abbrev pub table_of : Option Members → Result Data ConfigPlace
 table_of (Some ms) = Ok (table ms)
 table_of None = Err Text
 
 -- the table of a text that has at most 2 ^ 20 bytes
-unfoldable pub root_of : List ℕ → Result Data ConfigKey
+unfoldable pub root_of : List ℕ → Result Data ConfigPlace
 root_of text = if nat_le (length text) 1048576 then table_of (parse_document text) else Err Text
 
 -- the configuration that a text gives, or the first key whose test fails
-unfoldable pub configuration : List ℕ → Result ConfigValues ConfigKey
+unfoldable pub configuration : List ℕ → Result ConfigValues ConfigPlace
 configuration text = and_then (root_of text) config_of

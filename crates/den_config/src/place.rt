@@ -3,7 +3,7 @@ ghost use Rattle.std.specs.Prelude.{◌≡◌, codes};
 ghost use Rattle.toml.specs.View.{view};
 ghost use Rattle.den_config.specs.Places.{standing, below, holds, place};
 
-use crate::ConfigKey;
+use den_codec::ConfigPlace;
 use toml::Value;
 
 /// What stands where a key leads: nothing, a value, or no table where one is to hold the key.
@@ -42,30 +42,30 @@ fn below_value<'a>(value: &'a Value, key: &str) -> Place<'a>
 
 /// The place of a key of the configuration.
 #[tactic(auto, unfolding(crate::specs::Places::place))]
-pub(crate) fn place_of(root: &Value, key: ConfigKey) -> Place<'_>
+pub(crate) fn place_of(root: &Value, key: ConfigPlace) -> Place<'_>
     ensures { standing result ≡ place key (view root.now) }
 {
     let root = Place::Holds(root);
     match key {
-        ConfigKey::Text => root,
-        ConfigKey::NodeId => below(below(root, "cluster"), "node_id"),
-        ConfigKey::InitialCluster => below(below(root, "cluster"), "initial_cluster"),
-        ConfigKey::DbRootDir => below(below(root, "cluster"), "db_root_dir"),
-        ConfigKey::Timeout => below(below(root, "raft"), "general_raft_timeout_duration_in_ms"),
-        ConfigKey::LeaseEnabled => below(lease(root), "enabled"),
-        ConfigKey::CleanupInterval => below(lease(root), "cleanup_interval_ms"),
-        ConfigKey::CleanupDuration => below(lease(root), "max_cleanup_duration_ms"),
-        ConfigKey::MaxWatchers => below(watch(root), "max_watcher_count"),
-        ConfigKey::WatcherBuffer => below(watch(root), "watcher_buffer_size"),
-        ConfigKey::MaxLogEntries => below(
+        ConfigPlace::Text => root,
+        ConfigPlace::NodeId => below(below(root, "cluster"), "node_id"),
+        ConfigPlace::InitialCluster => below(below(root, "cluster"), "initial_cluster"),
+        ConfigPlace::DbRootDir => below(below(root, "cluster"), "db_root_dir"),
+        ConfigPlace::Timeout => below(below(root, "raft"), "general_raft_timeout_duration_in_ms"),
+        ConfigPlace::LeaseEnabled => below(lease(root), "enabled"),
+        ConfigPlace::CleanupInterval => below(lease(root), "cleanup_interval_ms"),
+        ConfigPlace::CleanupDuration => below(lease(root), "max_cleanup_duration_ms"),
+        ConfigPlace::MaxWatchers => below(watch(root), "max_watcher_count"),
+        ConfigPlace::WatcherBuffer => below(watch(root), "watcher_buffer_size"),
+        ConfigPlace::MaxLogEntries => below(
             below(below(root, "raft"), "snapshot"),
             "max_log_entries_before_snapshot",
         ),
-        ConfigKey::Zombie => below(
+        ConfigPlace::Zombie => below(
             below(below(below(root, "raft"), "membership"), "zombie"),
             "threshold",
         ),
-        ConfigKey::MaxFrame => below(below(root, "network"), "max_frame_size"),
+        ConfigPlace::MaxFrame => below(below(root, "network"), "max_frame_size"),
     }
 }
 

@@ -6,33 +6,32 @@ ghost use Rattle.den_config.specs.Rows.{cluster_of, cluster_values, lease_of, le
 
 use crate::nodes::named_cluster;
 use crate::rows::{flag, label_of, natural, word};
-use crate::{ConfigKey, ConfigRefusal};
 use den_codec::{
-    BackoffPolicy, ClusterConfig, LeaseConfig, NetworkConfig, RaftConfig, RaftNodeConfig,
-    WatchConfig,
+    BackoffPolicy, ClusterConfig, ConfigPlace, Error, LeaseConfig, NetworkConfig, RaftConfig,
+    RaftNodeConfig, WatchConfig,
 };
 use std::alloc::Global;
 use toml::Value;
 
 #[tactic(auto, using(crate::proofs::Steps::and_then_ok, crate::proofs::Steps::and_then_err), unfolding(crate::specs::Rows::cluster_of))]
-fn cluster(alloc: Global, root: &Value) -> Result<ClusterConfig, ConfigRefusal>
+fn cluster(alloc: Global, root: &Value) -> Result<ClusterConfig, Error>
     ensures given { IfOk result (λ c. cluster_of (view root.now) ≡ Ok (cluster_values c)) }
     ensures refused { IfErr result (IsRefusal (cluster_of (view root.now))) }
 {
-    let node_id = word(root, ConfigKey::NodeId, 0, 1)?;
+    let node_id = word(root, ConfigPlace::NodeId, 0, 1)?;
     let mut cluster = named_cluster(alloc, root, node_id)?;
-    cluster.db_root_dir = label_of(alloc, root, ConfigKey::DbRootDir)?;
+    cluster.db_root_dir = label_of(alloc, root, ConfigPlace::DbRootDir)?;
     Ok(cluster)
 }
 
 #[tactic(auto, using(crate::proofs::Steps::and_then_ok, crate::proofs::Steps::and_then_err), unfolding(crate::specs::Rows::lease_of))]
-fn lease(root: &Value) -> Result<LeaseConfig, ConfigKey>
+fn lease(root: &Value) -> Result<LeaseConfig, ConfigPlace>
     ensures given { IfOk result (λ c. lease_of (view root.now) ≡ Ok (lease_values c)) }
     ensures refused { IfErr result (λ key. lease_of (view root.now) ≡ Err key) }
 {
-    let enabled = flag(root, ConfigKey::LeaseEnabled, false)?;
-    let cleanup_interval_ms = natural(root, ConfigKey::CleanupInterval, 1, 1000)?;
-    let max_cleanup_duration_ms = natural(root, ConfigKey::CleanupDuration, 0, 1)?;
+    let enabled = flag(root, ConfigPlace::LeaseEnabled, false)?;
+    let cleanup_interval_ms = natural(root, ConfigPlace::CleanupInterval, 1, 1000)?;
+    let max_cleanup_duration_ms = natural(root, ConfigPlace::CleanupDuration, 0, 1)?;
     Ok(LeaseConfig {
         enabled,
         cleanup_interval_ms,
@@ -41,12 +40,12 @@ fn lease(root: &Value) -> Result<LeaseConfig, ConfigKey>
 }
 
 #[tactic(auto, using(crate::proofs::Steps::and_then_ok, crate::proofs::Steps::and_then_err), unfolding(crate::specs::Rows::watch_of))]
-fn watch(root: &Value) -> Result<WatchConfig, ConfigKey>
+fn watch(root: &Value) -> Result<WatchConfig, ConfigPlace>
     ensures given { IfOk result (λ c. watch_of (view root.now) ≡ Ok (watch_values c)) }
     ensures refused { IfErr result (λ key. watch_of (view root.now) ≡ Err key) }
 {
-    let max_watcher_count = word(root, ConfigKey::MaxWatchers, 0, 1000)?;
-    let watcher_buffer_size = word(root, ConfigKey::WatcherBuffer, 1, 64)?;
+    let max_watcher_count = word(root, ConfigPlace::MaxWatchers, 0, 1000)?;
+    let watcher_buffer_size = word(root, ConfigPlace::WatcherBuffer, 1, 64)?;
     Ok(WatchConfig {
         max_watcher_count,
         watcher_buffer_size,
@@ -54,15 +53,15 @@ fn watch(root: &Value) -> Result<WatchConfig, ConfigKey>
 }
 
 #[tactic(auto, using(crate::proofs::Steps::and_then_ok, crate::proofs::Steps::and_then_err), unfolding(crate::specs::Rows::raft_of))]
-fn raft(root: &Value) -> Result<RaftConfig, ConfigKey>
+fn raft(root: &Value) -> Result<RaftConfig, ConfigPlace>
     ensures given { IfOk result (λ c. raft_of (view root.now) ≡ Ok (raft_values c)) }
     ensures refused { IfErr result (λ key. raft_of (view root.now) ≡ Err key) }
 {
-    let timeout_ms = natural(root, ConfigKey::Timeout, 0, 1000)?;
+    let timeout_ms = natural(root, ConfigPlace::Timeout, 0, 1000)?;
     let lease = lease(root)?;
     let watch = watch(root)?;
-    let max_log_entries = natural(root, ConfigKey::MaxLogEntries, 1, 1000)?;
-    let zombie_threshold = word(root, ConfigKey::Zombie, 0, 3)?;
+    let max_log_entries = natural(root, ConfigPlace::MaxLogEntries, 1, 1000)?;
+    let zombie_threshold = word(root, ConfigPlace::Zombie, 0, 3)?;
     Ok(RaftConfig {
         timeout_ms,
         lease,
@@ -74,13 +73,13 @@ fn raft(root: &Value) -> Result<RaftConfig, ConfigKey>
 
 /// The configuration that a table gives.
 #[tactic(auto, using(crate::proofs::Steps::and_then_ok, crate::proofs::Steps::and_then_err), unfolding(crate::specs::Rows::config_of))]
-pub(crate) fn configured(alloc: Global, root: &Value) -> Result<RaftNodeConfig, ConfigRefusal>
+pub(crate) fn configured(alloc: Global, root: &Value) -> Result<RaftNodeConfig, Error>
     ensures given { IfOk result (λ c. config_of (view root.now) ≡ Ok (values_of c)) }
     ensures refused { IfErr result (IsRefusal (config_of (view root.now))) }
 {
     let cluster = cluster(alloc, root)?;
     let raft = raft(root)?;
-    let max_frame_size = word(root, ConfigKey::MaxFrame, 1, 16_777_216)?;
+    let max_frame_size = word(root, ConfigPlace::MaxFrame, 1, 16_777_216)?;
     Ok(RaftNodeConfig {
         cluster,
         raft,

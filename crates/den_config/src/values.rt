@@ -7,8 +7,7 @@ ghost use Rattle.den_config.specs.Refusals.{IsRefusal};
 ghost use Rattle.den_config.specs.Values.{natural, at_least, between, value_or, value_at};
 
 use crate::place::Place;
-use crate::{ConfigKey, ConfigRefusal};
-use den_codec::Label;
+use den_codec::{ConfigPlace, Error, Label};
 use std::alloc::Global;
 use toml::Value;
 
@@ -132,16 +131,12 @@ pub(crate) fn text_at(at: Place<'_>) -> Option<&str>
 }
 
 /// A copy of the text, or a refusal at the key where there is none.
-pub(crate) fn copied(
-    alloc: Global,
-    text: Option<&str>,
-    key: ConfigKey,
-) -> Result<Label, ConfigRefusal>
+pub(crate) fn copied(alloc: Global, text: Option<&str>, key: ConfigPlace) -> Result<Label, Error>
     ensures given { IfOk result (λ l. ok_or (option_copied text.entry) key ≡ Ok l) }
     ensures refused { IfErr result (IsRefusal (ok_or (option_copied text.entry) key)) }
 {
     match text {
         Some(text) => Ok(Label::of(alloc, text)?),
-        None => Err(ConfigRefusal::At(key)),
+        None => Err(Error::Config(key)),
     }
 }
