@@ -235,6 +235,7 @@ later_cause rose more most same error.FeatureNotEnabled rises is h = h
 later_cause rose more most same error.ProposeFailed rises is h = h
 later_cause rose more most same (error.UnorderedChunk index) rises is h = h
 later_cause rose more most same (error.Config place) rises is h = h
+later_cause rose more most same error.ConfigFault rises is h = h
 later_cause rose more most same error.StateMachineError rises is h = h
 
 pub drafts_then : {F R D S T : Type 0} (fold : Ghosts F R) (disk : DiskGhosts D) (stands : fold.Value) (was between now : Journal F) (old mid new : D) (more : List fold.Value) (x : S) (result : Result T Error)
@@ -281,6 +282,7 @@ full_for told more family files end size most adds drafts error.FeatureNotEnable
 full_for told more family files end size most adds drafts error.ProposeFailed tells small meant h = tt
 full_for told more family files end size most adds drafts (error.UnorderedChunk index) tells small meant h = tt
 full_for told more family files end size most adds drafts (error.Config place) tells small meant h = tt
+full_for told more family files end size most adds drafts error.ConfigFault tells small meant h = tt
 full_for told more family files end size most adds drafts error.StateMachineError tells small meant h = tt
 
 -- ---- a rewrite

@@ -49,6 +49,7 @@ unread_weaker rose then P Q error.FeatureNotEnabled rises weaker h = h
 unread_weaker rose then P Q error.ProposeFailed rises weaker h = h
 unread_weaker rose then P Q (error.UnorderedChunk index) rises weaker h = h
 unread_weaker rose then P Q (error.Config place) rises weaker h = h
+unread_weaker rose then P Q error.ConfigFault rises weaker h = h
 unread_weaker rose then P Q error.StateMachineError rises weaker h = h
 
 -- a refusal that is handed on
@@ -68,6 +69,7 @@ settled_out (Err error.FeatureNotEnabled) old new h = h
 settled_out (Err error.ProposeFailed) old new h = h
 settled_out (Err (error.UnorderedChunk index)) old new h = h
 settled_out (Err (error.Config place)) old new h = h
+settled_out (Err error.ConfigFault) old new h = h
 settled_out (Err error.StateMachineError) old new h = h
 
 -- a refusal that is handed on is no opened store

@@ -26,6 +26,7 @@ more_heavy most weight more error.FeatureNotEnabled le h = tt
 more_heavy most weight more error.ProposeFailed le h = tt
 more_heavy most weight more (error.UnorderedChunk index) le h = tt
 more_heavy most weight more (error.Config place) le h = tt
+more_heavy most weight more error.ConfigFault le h = tt
 more_heavy most weight more error.StateMachineError le h = tt
 
 -- ---- a full disk, of more bytes and of more sizes
@@ -47,6 +48,7 @@ more_full told more_told family files most more adds drafts more_adds more_draft
 more_full told more_told family files most more adds drafts more_adds more_drafts error.ProposeFailed tells le on_adds on_drafts f = tt
 more_full told more_told family files most more adds drafts more_adds more_drafts (error.UnorderedChunk index) tells le on_adds on_drafts f = tt
 more_full told more_told family files most more adds drafts more_adds more_drafts (error.Config place) tells le on_adds on_drafts f = tt
+more_full told more_told family files most more adds drafts more_adds more_drafts error.ConfigFault tells le on_adds on_drafts f = tt
 more_full told more_told family files most more adds drafts more_adds more_drafts error.StateMachineError tells le on_adds on_drafts f = tt
 
 -- ---- a call that writes
@@ -112,6 +114,7 @@ unread_part rose told at one other error.FeatureNotEnabled gives h = h
 unread_part rose told at one other error.ProposeFailed gives h = h
 unread_part rose told at one other (error.UnorderedChunk index) gives h = h
 unread_part rose told at one other (error.Config place) gives h = h
+unread_part rose told at one other error.ConfigFault gives h = h
 unread_part rose told at one other error.StateMachineError gives h = h
 
 -- ---- a refused call

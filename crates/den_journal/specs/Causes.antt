@@ -9,7 +9,7 @@ use Rattle.den_model.specs.Sizes.{found_size}
 use Rattle.den_gate.specs.Slot.{IsShort, room_for}
 use Rattle.den_gate.specs.Draft.{other_slot}
 use Rattle.den_codec.specs.declared.error.Error.{Error}
-use Rattle.den_codec.specs.declared.error.Error.TheVariants.{OutOfMemory, StorageIoError, DiskFull, LinkFault, DataCorruption, FeatureNotEnabled, ProposeFailed, UnorderedChunk, Config, StateMachineError}
+use Rattle.den_codec.specs.declared.error.Error.TheVariants.{OutOfMemory, StorageIoError, DiskFull, LinkFault, DataCorruption, FeatureNotEnabled, ProposeFailed, UnorderedChunk, Config, ConfigFault, StateMachineError}
 
 -- a refusal that every call which is lent a disk may answer, told apart from all others: want of memory, a fault of
 -- the disk where its count rose, and a file that would pass the limit
@@ -23,6 +23,7 @@ IsRefusal rose most FeatureNotEnabled = ⊥
 IsRefusal rose most ProposeFailed = ⊥
 IsRefusal rose most (UnorderedChunk index) = ⊥
 IsRefusal rose most (Config place) = ⊥
+IsRefusal rose most ConfigFault = ⊥
 IsRefusal rose most StateMachineError = ⊥
 
 -- a refusal of the disk itself
@@ -36,6 +37,7 @@ IsOfDisk FeatureNotEnabled = ⊥
 IsOfDisk ProposeFailed = ⊥
 IsOfDisk (UnorderedChunk index) = ⊥
 IsOfDisk (Config place) = ⊥
+IsOfDisk ConfigFault = ⊥
 IsOfDisk StateMachineError = ⊥
 
 -- how many bytes of regions a file has
@@ -66,6 +68,7 @@ IsFullAt end size FeatureNotEnabled = Unit {0}
 IsFullAt end size ProposeFailed = Unit {0}
 IsFullAt end size (UnorderedChunk index) = Unit {0}
 IsFullAt end size (Config place) = Unit {0}
+IsFullAt end size ConfigFault = Unit {0}
 IsFullAt end size StateMachineError = Unit {0}
 
 -- where the disk is full: the room for at most so many bytes of regions and the gate behind them, and, where it is told what files hold, the room that the slot
@@ -81,4 +84,5 @@ IsFullFor told family files most adds drafts FeatureNotEnabled = Unit {0}
 IsFullFor told family files most adds drafts ProposeFailed = Unit {0}
 IsFullFor told family files most adds drafts (UnorderedChunk index) = Unit {0}
 IsFullFor told family files most adds drafts (Config place) = Unit {0}
+IsFullFor told family files most adds drafts ConfigFault = Unit {0}
 IsFullFor told family files most adds drafts StateMachineError = Unit {0}

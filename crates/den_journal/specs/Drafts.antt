@@ -9,7 +9,7 @@ use Rattle.den_gate.specs.Slot.{room_for}
 use Rattle.den_gate.specs.Gate.{payloads}
 use Rattle.den_gate.specs.Draft.{IsDraft, draft_end, other_slot}
 use Rattle.den_codec.specs.declared.error.Error.{Error}
-use Rattle.den_codec.specs.declared.error.Error.TheVariants.{OutOfMemory, StorageIoError, DiskFull, LinkFault, DataCorruption, FeatureNotEnabled, ProposeFailed, UnorderedChunk, Config, StateMachineError}
+use Rattle.den_codec.specs.declared.error.Error.TheVariants.{OutOfMemory, StorageIoError, DiskFull, LinkFault, DataCorruption, FeatureNotEnabled, ProposeFailed, UnorderedChunk, Config, ConfigFault, StateMachineError}
 use Rattle.den_codec.specs.Full.{IsHeavy}
 use Rattle.den_journal.specs.declared.folded.Folded.{Ghosts}
 use Rattle.den_journal.specs.declared.journal.Journal.{Journal}
@@ -47,6 +47,7 @@ IsFullOf told family files end size FeatureNotEnabled = Unit {0}
 IsFullOf told family files end size ProposeFailed = Unit {0}
 IsFullOf told family files end size (UnorderedChunk index) = Unit {0}
 IsFullOf told family files end size (Config place) = Unit {0}
+IsFullOf told family files end size ConfigFault = Unit {0}
 IsFullOf told family files end size StateMachineError = Unit {0}
 
 -- `stands` is the value that the regions of the slot in use give. It is the journal's own, unless the journal took on

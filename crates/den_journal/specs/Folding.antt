@@ -2,7 +2,7 @@
 use Rattle.std.specs.Prelude.{◌≡◌, ℕ, ◌+◌, List, [], ◌∷◌, length, Option, Some, None, Result, Ok, Err}
 use Rattle.den_model.specs.Regions.{Region}
 use Rattle.den_codec.specs.declared.error.Error.{Error}
-use Rattle.den_codec.specs.declared.error.Error.TheVariants.{OutOfMemory, StorageIoError, DiskFull, LinkFault, DataCorruption, FeatureNotEnabled, ProposeFailed, UnorderedChunk, Config, StateMachineError}
+use Rattle.den_codec.specs.declared.error.Error.TheVariants.{OutOfMemory, StorageIoError, DiskFull, LinkFault, DataCorruption, FeatureNotEnabled, ProposeFailed, UnorderedChunk, Config, ConfigFault, StateMachineError}
 
 -- what is made of a value by regions is made payload by payload, up to the first that is not lawful
 pub record IsFold {V : Type 0} (after : V → List ℕ → Option V) (from : V → List Region → Result V ℕ) : Type 0 where
@@ -27,4 +27,5 @@ IsUnread rose corrupt FeatureNotEnabled = ⊥
 IsUnread rose corrupt ProposeFailed = ⊥
 IsUnread rose corrupt (UnorderedChunk index) = ⊥
 IsUnread rose corrupt (Config place) = ⊥
+IsUnread rose corrupt ConfigFault = ⊥
 IsUnread rose corrupt StateMachineError = ⊥

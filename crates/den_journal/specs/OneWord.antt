@@ -16,7 +16,7 @@ use Rattle.den_gate.specs.Slot.{room_for}
 use Rattle.den_gate.specs.Steps.{IsSettled}
 use Rattle.den_gate.specs.Draft.{other_slot}
 use Rattle.den_codec.specs.declared.error.Error.{Error}
-use Rattle.den_codec.specs.declared.error.Error.TheVariants.{OutOfMemory, StorageIoError, DiskFull, LinkFault, DataCorruption, FeatureNotEnabled, ProposeFailed, UnorderedChunk, Config, StateMachineError}
+use Rattle.den_codec.specs.declared.error.Error.TheVariants.{OutOfMemory, StorageIoError, DiskFull, LinkFault, DataCorruption, FeatureNotEnabled, ProposeFailed, UnorderedChunk, Config, ConfigFault, StateMachineError}
 use Rattle.den_journal.specs.Causes.{IsTooShort}
 use Rattle.den_journal.specs.Folding.{IsUnread}
 use Rattle.den_journal.specs.Opening.{AllSynced}
@@ -101,6 +101,7 @@ IsRefusalOfOne rose told family files size most FeatureNotEnabled = ⊥
 IsRefusalOfOne rose told family files size most ProposeFailed = ⊥
 IsRefusalOfOne rose told family files size most (UnorderedChunk index) = ⊥
 IsRefusalOfOne rose told family files size most (Config place) = ⊥
+IsRefusalOfOne rose told family files size most ConfigFault = ⊥
 IsRefusalOfOne rose told family files size most StateMachineError = ⊥
 
 module _ {D : Type 0} (disk : Ghosts D) (family : Family) where

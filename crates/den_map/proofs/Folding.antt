@@ -7,7 +7,7 @@ use Rattle.den_model.specs.declared.log_id.LogId.{LogId}
 use Rattle.den_model.specs.declared.journal.JournalRecord.{JournalRecord}
 use Rattle.den_model.specs.declared.journal.JournalRecord.TheVariants.{Noop, Insert, Delete, CasFailed, Cleanup}
 use Rattle.den_model.specs.declared.region.StoredPair.{StoredPair}
-use Rattle.den_model.specs.MapState.{MapState, with_pair, with_pairs, marked, map_after_record, map_after_records}
+use Rattle.den_model.specs.MapState.{MapState, with_stored, with_pairs, marked, map_after_record, map_after_records}
 use Rattle.den_map.specs.declared.fold.FoldError.{FoldError}
 use Rattle.den_map.specs.declared.fold.FoldError.TheVariants.{Memory, Unlawful}
 use Rattle.den_map.specs.Fold.{Folds, record_done, place_of}
@@ -91,5 +91,5 @@ records_done s xs i total le so_far = sym so_far ∙ ap (map_after_records s) (d
 -- ---- pairs in order
 
 pub pairs_go_on : (s : MapState) (xs : List StoredPair) (i : ℕ) (x : StoredPair) → i < length xs → x ≡ get_or xs i x
-    → with_pairs s (drop i xs) ≡ with_pairs (with_pair s x.key x.value x.term x.expiry) (drop (i + 1) xs)
+    → with_pairs s (drop i xs) ≡ with_pairs (with_stored s x.key x.value x.term x.expiry) (drop (i + 1) xs)
 pairs_go_on s xs i x lt is = rw (front xs i x lt is) refl

@@ -4,7 +4,7 @@ use Rattle.std.specs.List.Sorted.{IsStrictlySortedBy}
 use Rattle.std.specs.Prelude.{is_some}
 use Rattle.den_model.specs.declared.held.Held.{Held}
 use Rattle.den_model.specs.declared.region.StoredPair.{StoredPair}
-use Rattle.den_model.specs.MapState.{MapState, with_expiry, with_pair, with_pairs}
+use Rattle.den_model.specs.MapState.{MapState, with_expiry, with_stored, with_pairs}
 use Rattle.den_model.specs.Table.{Table, is_same, at, is_held, set}
 use Rattle.den_table.proofs.Entries.{at_above, same_table}
 use Rattle.den_table.proofs.Sorted.{IsSorted}
@@ -16,24 +16,24 @@ use Rattle.den_map.specs.Pages.{stored, stored_pairs}
 
 pub with_both : (s : MapState) (ps qs : List StoredPair) → with_pairs (with_pairs s ps) qs ≡ with_pairs s (ps ++ qs)
 with_both s [] qs = refl
-with_both s (p ∷ ps) qs = with_both (with_pair s p.key p.value p.term p.expiry) ps qs
+with_both s (p ∷ ps) qs = with_both (with_stored s p.key p.value p.term p.expiry) ps qs
 
 -- ---- what is kept
 
 pub mark_kept : (s : MapState) (ps : List StoredPair) → (with_pairs s ps).mark ≡ s.mark
 mark_kept s [] = refl
-mark_kept s (p ∷ ps) = mark_kept (with_pair s p.key p.value p.term p.expiry) ps
+mark_kept s (p ∷ ps) = mark_kept (with_stored s p.key p.value p.term p.expiry) ps
 
 pairs_sorted : (s : MapState) (ps : List StoredPair) → IsSorted s.pairs → IsSorted (with_pairs s ps).pairs
 pairs_sorted s [] sorted = sorted
-pairs_sorted s (p ∷ ps) sorted = pairs_sorted (with_pair s p.key p.value p.term p.expiry) ps (sorted_set s.pairs p.key (record { value = p.value; term = p.term }) sorted)
+pairs_sorted s (p ∷ ps) sorted = pairs_sorted (with_stored s p.key p.value p.term p.expiry) ps (sorted_set s.pairs p.key (record { value = p.value; term = p.term }) sorted)
 
 expiry_sorted : (t : Table ℕ) (k : List ℕ) (n : ℕ) → IsSorted t → IsSorted (with_expiry t k n)
 expiry_sorted t k n sorted = elim (n == 0) as (λ b. IsSorted (if b then t else set t k n)) [ true ↦ sorted | false ↦ sorted_set t k n sorted ]
 
 expiries_sorted : (s : MapState) (ps : List StoredPair) → IsSorted s.expiries → IsSorted (with_pairs s ps).expiries
 expiries_sorted s [] sorted = sorted
-expiries_sorted s (p ∷ ps) sorted = expiries_sorted (with_pair s p.key p.value p.term p.expiry) ps (expiry_sorted s.expiries p.key p.expiry sorted)
+expiries_sorted s (p ∷ ps) sorted = expiries_sorted (with_stored s p.key p.value p.term p.expiry) ps (expiry_sorted s.expiries p.key p.expiry sorted)
 
 -- ---- what stands at a key
 
@@ -43,7 +43,7 @@ over None other = other
 over (Some x) other = Some x
 
 abbrev behind_stored : Table ℕ → MapState → List ℕ × Held → MapState
-behind_stored x s e = with_pair s e.0 e.1.value e.1.term (unwrap_or (at x e.0) 0)
+behind_stored x s e = with_stored s e.0 e.1.value e.1.term (unwrap_or (at x e.0) 0)
 
 pairs_at : (x : Table ℕ) (t : Table Held) (s : MapState) (q : List ℕ) → IsSorted t → at (with_pairs s (map (stored x) t)).pairs q ≡ over (at t q) (at s.pairs q)
 unfolding IsStrictlySortedBy

@@ -11,7 +11,7 @@ use Rattle.den_model.specs.declared.region.StateRegion.{StateRegion}
 use Rattle.den_model.specs.declared.region.StateRegion.TheVariants.{Begin, Pairs, Records, Mark}
 use Rattle.den_model.specs.declared.region.StoredPair.{StoredPair}
 use Rattle.den_model.specs.Apply.{is_expired, kept_pairs, kept_expiries}
-use Rattle.den_model.specs.MapState.{MapState, with_pair, with_pairs, marked, map_after_record, map_after_records, map_after, map_after_payload}
+use Rattle.den_model.specs.MapState.{MapState, with_stored, with_pairs, marked, map_after_record, map_after_records, map_after, map_after_payload}
 use Rattle.den_model.specs.Reading.{state_region_in}
 use Rattle.den_model.specs.Spelling.{u64_word, record_fields, record_word, state_region_word}
 use Rattle.den_model.specs.Table.{Table, by_bytes, is_same, set, unset}
@@ -56,7 +56,7 @@ pub size_with : (s : MapState) (ps : List StoredPair) → pairs_size (with_pairs
 size_with s [] = omega arith
 size_with s (p ∷ ps) =
     let first = size_set s.pairs p.key (record { value = p.value; term = p.term }) in
-    let rest = size_with (with_pair s p.key p.value p.term p.expiry) ps in
+    let rest = size_with (with_stored s p.key p.value p.term p.expiry) ps in
     omega arith
 
 -- ---- records
@@ -75,7 +75,7 @@ size_record : (s n : MapState) (r : JournalRecord) → map_after_record s r ≡ 
 unfolding map_after_record
 size_record s n (Noop index term) is = let same = ap pairs_size (marked_pairs s index term s n is) in omega arith
 size_record s n (Insert index term key value expiry) is =
-    let same = ap pairs_size (marked_pairs s index term (with_pair s key value term expiry) n is) in
+    let same = ap pairs_size (marked_pairs s index term (with_stored s key value term expiry) n is) in
     let more = size_set s.pairs key (record { value = value; term = term }) in
     let long = record_long index term 1 key value expiry in
     omega arith

@@ -4,7 +4,7 @@ use Rattle.std.specs.List.Sorted.{IsStrictlySortedBy}
 use Rattle.den_model.specs.declared.held.Held.{Held}
 use Rattle.den_model.specs.declared.log_id.LogId.{LogId}
 use Rattle.den_model.specs.declared.region.StoredPair.{StoredPair}
-use Rattle.den_model.specs.MapState.{MapState, with_pair, with_pairs}
+use Rattle.den_model.specs.MapState.{MapState, with_stored, with_pairs}
 use Rattle.den_model.specs.Table.{Table, set}
 use Rattle.den_table.proofs.Tables.{sorted_set}
 use Rattle.den_map.specs.Held.{AreExpiriesOf, IsSound}
@@ -22,7 +22,7 @@ pub sound_with : (s : MapState) (ps : List StoredPair) → IsSound s → IsSound
 sound_with s [] sound = sound
 sound_with s (p ∷ ps) sound =
     let held : Held = record { value = p.value; term = p.term } in
-    sound_with (with_pair s p.key p.value p.term p.expiry) ps (record {
+    sound_with (with_stored s p.key p.value p.term p.expiry) ps (record {
       sorted = sorted_set s.pairs p.key held sound.sorted;
       expiries = expiries_more s.expiries s.pairs p.key held p.expiry sound.expiries;
     })

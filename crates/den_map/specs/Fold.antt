@@ -4,7 +4,7 @@ use Rattle.den_model.specs.declared.log_id.LogId.{LogId}
 use Rattle.den_model.specs.declared.journal.JournalRecord.{JournalRecord}
 use Rattle.den_model.specs.declared.journal.JournalRecord.TheVariants.{Noop, Insert, Delete, CasFailed, Cleanup}
 use Rattle.den_model.specs.Table.{unset}
-use Rattle.den_model.specs.MapState.{MapState, with_pair}
+use Rattle.den_model.specs.MapState.{MapState, with_stored}
 use Rattle.den_map.specs.Cleanup.{cleaned_map}
 use Rattle.den_map.specs.declared.fold.FoldError.{FoldError}
 use Rattle.den_map.specs.declared.fold.FoldError.TheVariants.{Memory, Unlawful}
@@ -18,7 +18,7 @@ Folds (Err Unlawful) given new = given ≡ None
 -- pairs and expiries after a record
 abbrev pub record_done : MapState → JournalRecord → MapState
 record_done s (Noop index term) = s
-record_done s (Insert index term key value expiry) = with_pair s key value term expiry
+record_done s (Insert index term key value expiry) = with_stored s key value term expiry
 record_done s (Delete index term key) = record s { pairs = unset s.pairs key; expiries = unset s.expiries key }
 record_done s (CasFailed index term) = s
 record_done s (Cleanup moment) = cleaned_map moment s

@@ -4,7 +4,7 @@ ghost use Rattle.std.specs.Option.{option_eq};
 ghost use Rattle.std.specs.Cmp.Lexicographic.{pointwise};
 ghost use Rattle.std.specs.List.Sorted.{IsStrictlySortedBy};
 ghost use Rattle.den_model.specs.Apply.{value_at};
-ghost use Rattle.den_model.specs.MapState.{MapState, part_of, with_pair};
+ghost use Rattle.den_model.specs.MapState.{MapState, part_of, with_stored};
 ghost use Rattle.den_model.specs.Step.{begins_with, pairs_under};
 ghost use Rattle.den_model.specs.Table.{at, by_bytes};
 ghost use Rattle.den_lease.specs.Due.{has_due, due_keys};
@@ -201,7 +201,7 @@ impl Map {
         held: Held,
         expiry: u64,
     ) -> Result<(), AllocError>
-        ensures { OnOk result (self.new ≡ with_pair self.old key.now held.value held.term expiry) }
+        ensures { OnOk result (self.new ≡ with_stored self.old key.now held.value held.term expiry) }
     {
         self.pairs.insert(alloc, key.as_slice(), held)?;
         if let Some(expiry) = Positive::new(expiry) {

@@ -12,7 +12,7 @@ use Rattle.std.proofs.lemmas.List.{append-nil, map-append}
 use Rattle.den_model.specs.declared.held.Held.{Held}
 use Rattle.den_model.specs.declared.log_id.LogId.{LogId}
 use Rattle.den_model.specs.declared.region.StoredPair.{StoredPair}
-use Rattle.den_model.specs.MapState.{MapState, with_expiry, with_pair, with_pairs}
+use Rattle.den_model.specs.MapState.{MapState, with_expiry, with_stored, with_pairs}
 use Rattle.den_model.specs.Table.{Table, by_bytes, is_same, at, is_held, set}
 use Rattle.den_lease.proofs.Rising.{sorted_from_rises}
 use Rattle.den_table.proofs.Entries.{same_itself}
@@ -96,7 +96,7 @@ stored_before x k n (e ∷ es) below =
     let rest = stored_before x k n es below.1 in
     λ i. record { key = e.0; value = e.1.value; term = e.1.term; expiry = unwrap_or (expiry i) 0 } ∷ rest i
 
-pair_more : (s : MapState) (p : StoredPair) → IsSound s → AllBelow p.key s.pairs → stored_pairs (with_pair s p.key p.value p.term p.expiry) ≡ stored_pairs s ++ p ∷ []
+pair_more : (s : MapState) (p : StoredPair) → IsSound s → AllBelow p.key s.pairs → stored_pairs (with_stored s p.key p.value p.term p.expiry) ≡ stored_pairs s ++ p ∷ []
 pair_more s p sound below =
     let held : Held = record { value = p.value; term = p.term } in
     let x = with_expiry s.expiries p.key p.expiry in
@@ -113,7 +113,7 @@ unfolding IsStrictlySortedBy
 pairs_more s [] sound behind sorted = sym (append-nil (stored_pairs s))
 pairs_more s (p ∷ ps) sound behind sorted =
     let held : Held = record { value = p.value; term = p.term } in
-    pairs_more (with_pair s p.key p.value p.term p.expiry) ps (sound_with s (p ∷ []) sound) (behind_set s.pairs p.key held ps sorted.0 behind.1) sorted.1
+    pairs_more (with_stored s p.key p.value p.term p.expiry) ps (sound_with s (p ∷ []) sound) (behind_set s.pairs p.key held ps sorted.0 behind.1) sorted.1
     ∙ ap (λ (l : List StoredPair). l ++ ps) (pair_more s p sound behind.0)
     ∙ append_assoc (stored_pairs s) (p ∷ []) ps
 

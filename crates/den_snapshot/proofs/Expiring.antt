@@ -7,7 +7,7 @@ use Rattle.std.proofs.lemmas.Bool.{lt-ltb}
 use Rattle.std.proofs.Math.ListN.{drop_of_length-le}
 use Rattle.den_model.specs.declared.log_id.LogId.{LogId}
 use Rattle.den_model.specs.declared.region.StoredPair.{StoredPair}
-use Rattle.den_model.specs.MapState.{MapState, with_expiry, with_pair, with_pairs}
+use Rattle.den_model.specs.MapState.{MapState, with_expiry, with_stored, with_pairs}
 use Rattle.den_model.specs.Table.{Table, by_bytes, set}
 use Rattle.den_lease.proofs.Rising.{front}
 use Rattle.den_map.specs.Leases.{has_expiry}
@@ -42,7 +42,7 @@ or_or false false c = refl
 expires_with : (s : MapState) (ps : List StoredPair) → has_expiry (with_pairs s ps) ≡ (has_expiry s || some_expires ps)
 expires_with s [] = elim (has_expiry s) as (λ b. b ≡ (b || false)) [ true ↦ refl | false ↦ refl ]
 expires_with s (p ∷ ps) =
-    expires_with (with_pair s p.key p.value p.term p.expiry) ps
+    expires_with (with_stored s p.key p.value p.term p.expiry) ps
     ∙ ap (λ b. b || some_expires ps) (some_with s.expiries p.key p.expiry)
     ∙ or_or (nat_lt 0 p.expiry) (has_expiry s) (some_expires ps)
 
