@@ -48,6 +48,7 @@ unstored rose told files size most error.FeatureNotEnabled h = h
 unstored rose told files size most error.ProposeFailed h = h
 unstored rose told files size most (error.UnorderedChunk index) h = h
 unstored rose told files size most (error.Config place) h = h
+unstored rose told files size most error.ConfigFault h = h
 unstored rose told files size most error.StateMachineError h = h
 
 full_for : (rose told : Type 0) (files : Files) (size most weight : ℕ) (e : Error) → size ≤ weight → IsRefusalOfOne rose told Snapshot files size most e → IsFullFor told Snapshot files weight (λ n. ⊥) (λ n. n ≡ size) e
@@ -60,6 +61,7 @@ full_for rose told files size most weight error.FeatureNotEnabled within h = tt
 full_for rose told files size most weight error.ProposeFailed within h = tt
 full_for rose told files size most weight (error.UnorderedChunk index) within h = tt
 full_for rose told files size most weight (error.Config place) within h = tt
+full_for rose told files size most weight error.ConfigFault within h = tt
 full_for rose told files size most weight error.StateMachineError within h = tt
 
 heavy_for : (rose told : Type 0) (files : Files) (size most weight : ℕ) (e : Error) → size ≤ weight → IsRefusalOfOne rose told Snapshot files size most e → IsHeavy most weight e
@@ -74,6 +76,7 @@ heavy_for rose told files size most weight error.FeatureNotEnabled within h = tt
 heavy_for rose told files size most weight error.ProposeFailed within h = tt
 heavy_for rose told files size most weight (error.UnorderedChunk index) within h = tt
 heavy_for rose told files size most weight (error.Config place) within h = tt
+heavy_for rose told files size most weight error.ConfigFault within h = tt
 heavy_for rose told files size most weight error.StateMachineError within h = tt
 
 room_told : (rose told : Type 0) (files : Files) (size most : ℕ) (e : Error) → IsRefusalOfOne rose told Snapshot files size most e → IsFullAt 0 size e
@@ -86,6 +89,7 @@ room_told rose told files size most error.FeatureNotEnabled h = tt
 room_told rose told files size most error.ProposeFailed h = tt
 room_told rose told files size most (error.UnorderedChunk index) h = tt
 room_told rose told files size most (error.Config place) h = tt
+room_told rose told files size most error.ConfigFault h = tt
 room_told rose told files size most error.StateMachineError h = tt
 
 -- no word is told from want of memory

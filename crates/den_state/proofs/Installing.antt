@@ -10,7 +10,7 @@ use Rattle.den_disk.specs.Families.{NoNewImages, SparesAll}
 use Rattle.den_model.specs.declared.log_id.LogId.{LogId}
 use Rattle.den_model.specs.declared.region.StoredPair.{StoredPair}
 use Rattle.den_model.specs.Image.{slot_of}
-use Rattle.den_model.specs.MapState.{MapState, with_pair, with_pairs}
+use Rattle.den_model.specs.MapState.{MapState, with_stored, with_pairs}
 use Rattle.den_gate.proofs.Families.{all_own}
 use Rattle.den_codec.specs.declared.error.Error.{Error}
 use Rattle.den_codec.specs.declared.error.Error.TheVariants as error
@@ -45,7 +45,7 @@ use Rattle.den_state.specs.Snapshots.{Installs, IsFound, IsFullOfMap, IsInstalle
 
 remarked : (m : MapState) (mark : LogId) (ps : List StoredPair) → with_pairs (record m { mark = mark }) ps ≡ record (with_pairs m ps) { mark = mark }
 remarked m mark [] = refl
-remarked m mark (p ∷ ps) = remarked (with_pair m p.key p.value p.term p.expiry) mark ps
+remarked m mark (p ∷ ps) = remarked (with_stored m p.key p.value p.term p.expiry) mark ps
 
 -- a snapshot's map, once its expired keys are gone, is the same under each mark
 pub installed_at : (leased : Bool) (moment : ℕ) (one other : LogId) (t : Taken) → record (installed leased moment one t) { mark = other } ≡ installed leased moment other t
@@ -103,6 +103,7 @@ module _ {D : Type 0} (disk : Ghosts D) (leased : Bool) (moment : ℕ) (last : O
   unread error.ProposeFailed is h same = absurd h
   unread (error.UnorderedChunk index) is h same = absurd h
   unread (error.Config place) is h same = absurd h
+  unread error.ConfigFault is h same = absurd h
   unread error.StateMachineError is h same = absurd h
 
 -- ---- what a crash may find
@@ -218,6 +219,7 @@ module _ {D : Type 0} (disk : Ghosts D) (s now : FileStateMachine) (old d new : 
   failing error.ProposeFailed r = absurd r.cause
   failing (error.UnorderedChunk index) r = absurd r.cause
   failing (error.Config place) r = absurd r.cause
+  failing error.ConfigFault r = absurd r.cause
   failing error.StateMachineError r = absurd r.cause
 
   pub installs : {S T : Type 0} (x : S) (y : T) → now.applied ≡ unwrap_or last s.applied → Replaces ghosts disk held s.journal now.journal d new (Ok x)

@@ -1,7 +1,7 @@
 -- Why a chunk of entries is refused.
 use Rattle.std.specs.Prelude.{◌≡◌, ◌<◌, ℕ, Bool, true, false, List, Option, Some, None, if◌then◌else◌}
 use Rattle.den_codec.specs.declared.error.Error.{Error}
-use Rattle.den_codec.specs.declared.error.Error.TheVariants.{OutOfMemory, StorageIoError, DiskFull, LinkFault, DataCorruption, FeatureNotEnabled, ProposeFailed, UnorderedChunk, Config, StateMachineError}
+use Rattle.den_codec.specs.declared.error.Error.TheVariants.{OutOfMemory, StorageIoError, DiskFull, LinkFault, DataCorruption, FeatureNotEnabled, ProposeFailed, UnorderedChunk, Config, ConfigFault, StateMachineError}
 use Rattle.den_model.specs.Entries.{LogEntry}
 use Rattle.den_map.specs.Leases.{lacks_lease}
 use Rattle.den_map.specs.Order.{out_of_order}
@@ -18,6 +18,7 @@ IsChunkRefusal leased rose most mark chunk LinkFault = ⊥
 IsChunkRefusal leased rose most mark chunk (DataCorruption place offset) = ⊥
 IsChunkRefusal leased rose most mark chunk ProposeFailed = ⊥
 IsChunkRefusal leased rose most mark chunk (Config place) = ⊥
+IsChunkRefusal leased rose most mark chunk ConfigFault = ⊥
 IsChunkRefusal leased rose most mark chunk StateMachineError = ⊥
 
 -- the refusal of a chunk behind this mark: for its order, then for a time to live without a lease

@@ -10,7 +10,7 @@ use Rattle.den_model.specs.Image.{slot_of}
 use Rattle.den_model.specs.MapState.{MapState}
 use Rattle.den_model.specs.Sizes.{store_rise}
 use Rattle.den_codec.specs.declared.error.Error.{Error}
-use Rattle.den_codec.specs.declared.error.Error.TheVariants.{OutOfMemory, StorageIoError, DiskFull, LinkFault, DataCorruption, FeatureNotEnabled, ProposeFailed, UnorderedChunk, Config, StateMachineError}
+use Rattle.den_codec.specs.declared.error.Error.TheVariants.{OutOfMemory, StorageIoError, DiskFull, LinkFault, DataCorruption, FeatureNotEnabled, ProposeFailed, UnorderedChunk, Config, ConfigFault, StateMachineError}
 use Rattle.den_codec.specs.Full.{IsHeavy}
 use Rattle.den_map.specs.Leases.{has_expiry}
 use Rattle.den_snapshot.specs.Snapshots.{Taken, map_of}
@@ -60,6 +60,7 @@ is_fault FeatureNotEnabled = false
 is_fault ProposeFailed = false
 is_fault (UnorderedChunk index) = false
 is_fault (Config place) = false
+is_fault ConfigFault = false
 is_fault StateMachineError = false
 
 -- why no snapshot is stored: want of memory; a fault of the disk where its count rose; a file that would pass the limit; and,
@@ -74,6 +75,7 @@ IsUnstored rose told most FeatureNotEnabled = ⊥
 IsUnstored rose told most ProposeFailed = ⊥
 IsUnstored rose told most (UnorderedChunk index) = ⊥
 IsUnstored rose told most (Config place) = ⊥
+IsUnstored rose told most ConfigFault = ⊥
 IsUnstored rose told most StateMachineError = ⊥
 
 module _ {D : Type 0} (disk : Ghosts D) where
@@ -162,6 +164,7 @@ module _ {D : Type 0} (disk : Ghosts D) where
     IsUninstalled told ProposeFailed = ⊥
     IsUninstalled told (UnorderedChunk index) = ⊥
     IsUninstalled told (Config place) = ⊥
+    IsUninstalled told ConfigFault = ⊥
     IsUninstalled told StateMachineError = ⊥
 
     -- A call that puts the files' snapshot in the map's place, under this mark where one is given. A crash inside leaves the old

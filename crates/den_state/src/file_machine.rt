@@ -114,6 +114,7 @@ impl FileStateMachine {
             (state_region_word (Records (all_recorded (state_shown self.old).value chunk.now)))) }
         ensures slot { self.new.journal.gate.slot ≡ self.old.journal.gate.slot }
         ensures tail { OnOk result (self.new.journal.held.tail ≡ min (self.old.journal.held.tail + length chunk.now) (2 ^ 64 - 1)) }
+        ensures short_kept { IfErr result (λ e. (state_shown self.new).ready → HasShortTail self.old → HasShortTail self.new) }
         ensures settings { state_settings self.new ≡ state_settings self.old }
     {
         let journaled = self.journal.held().map.journal(self.alloc, chunk)?;
@@ -177,6 +178,7 @@ impl FileStateMachine {
         ensures same { IfErr result (λ e. (state_shown self.new).ready → state_map self.new ≡ state_map self.old) }
         ensures kept { IfErr result (λ e. IsOfDisk e → (state_map self.new ≡ state_map self.old) ⊎ (state_map self.new ≡ map_applied_all (state_map self.old) chunk.now)) }
         ensures short { OnOk result (HasShortTail self.new) }
+        ensures short_kept { IfErr result (λ e. (state_shown self.new).ready → HasShortTail self.old → HasShortTail self.new) }
         ensures region { OnOk result (AddsOrRenews D.Disk self.old.journal self.new.journal disk.old disk.new (length chunk.now)
             (state_region_word (Records (all_recorded (state_shown self.old).value chunk.now))) (state_shown self.new).value) }
         ensures settings { state_settings self.new ≡ state_settings self.old }
@@ -203,6 +205,7 @@ impl FileStateMachine {
         ensures region { OnOk result (Adds D.Disk self.old.journal.gate.slot disk.old disk.new (state_region_word (Records (Cleanup moment ∷ [])))) }
         ensures slot { self.new.journal.gate.slot ≡ self.old.journal.gate.slot }
         ensures tail { OnOk result (self.new.journal.held.tail ≡ min (self.old.journal.held.tail + 1) (2 ^ 64 - 1)) }
+        ensures short_kept { IfErr result (λ e. HasShortTail self.old → HasShortTail self.new) }
         ensures settings { state_settings self.new ≡ state_settings self.old }
     {
         let due = prepare(self.alloc, &self.journal.held().map, moment)?;
@@ -225,6 +228,7 @@ impl FileStateMachine {
         ensures keys { IfOk result (λ keys. keys ≡ removed_where (state_settings self.old).leased moment (state_map self.old)) }
         ensures sorted { IfOk result (λ keys. IsStrictlySortedBy by_bytes keys) }
         ensures short { OnOk result (HasShortTail self.new) }
+        ensures short_kept { IfErr result (λ e. (state_shown self.new).ready → HasShortTail self.old → HasShortTail self.new) }
         ensures region { OnOk result (AddsOrRenews D.Disk self.old.journal self.new.journal disk.old disk.new 1
             (state_region_word (Records (Cleanup moment ∷ []))) (state_shown self.new).value) }
         ensures settings { state_settings self.new ≡ state_settings self.old }
@@ -317,6 +321,7 @@ impl<D: Disk> StateMachine<D> for FileStateMachine {
         ensures kept { IfErr result (λ e. IsOfDisk e → (state_map self.new ≡ state_map self.old) ⊎ (state_map self.new ≡ map_applied_all (state_map self.old) chunk.now)) }
         ensures nothing { chunk.now ≡ [] → (self.new ≡ self.old) × (disk.new ≡ disk.old) × IsOk result }
         ensures short { OnOk result (1 ≤ length chunk.now → HasShortTail self.new) }
+        ensures short_kept { IfErr result (λ e. (state_shown self.new).ready → HasShortTail self.old → HasShortTail self.new) }
         ensures settings { state_settings self.new ≡ state_settings self.old }
         ensures region { OnOk result (1 ≤ length chunk.now → AddsOrRenews D.Disk self.old.journal self.new.journal disk.old disk.new (length chunk.now)
             (state_region_word (Records (all_recorded (state_shown self.old).value chunk.now))) (state_shown self.new).value) }
@@ -405,6 +410,7 @@ impl<D: Disk> StateMachine<D> for FileStateMachine {
         ensures sorted { IfOk result (λ keys. IsStrictlySortedBy by_bytes keys) }
         ensures nothing { ((state_settings self.old).leased && has_due (max now 1) (state_map self.old).expiries) ≡ false → (self.new ≡ self.old) × (disk.new ≡ disk.old) × IsOk result }
         ensures short { OnOk result (((state_settings self.old).leased && has_due (max now 1) (state_map self.old).expiries) ≡ true → HasShortTail self.new) }
+        ensures short_kept { IfErr result (λ e. (state_shown self.new).ready → HasShortTail self.old → HasShortTail self.new) }
         ensures settings { state_settings self.new ≡ state_settings self.old }
         ensures region { OnOk result (((state_settings self.old).leased && has_due (max now 1) (state_map self.old).expiries) ≡ true
             → AddsOrRenews D.Disk self.old.journal self.new.journal disk.old disk.new 1 (state_region_word (Records (Cleanup (max now 1) ∷ []))) (state_shown self.new).value) }

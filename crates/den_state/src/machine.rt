@@ -65,6 +65,7 @@ pub trait StateMachine<D: Disk>: Drop {
         ensures kept { IfErr result (λ e. IsOfDisk e → (map self.new ≡ map self.old) ⊎ (map self.new ≡ map_applied_all (map self.old) chunk.now)) }
         ensures nothing { chunk.now ≡ [] → (self.new ≡ self.old) × (disk.new ≡ disk.old) × IsOk result }
         ensures short { OnOk result (1 ≤ length chunk.now → short self.new) }
+        ensures short_kept { IfErr result (λ e. (shown self.new).ready → short self.old → short self.new) }
         ensures settings { settings self.new ≡ settings self.old };
 
     /// Moves the applied mark, in memory alone.
@@ -114,6 +115,7 @@ pub trait StateMachine<D: Disk>: Drop {
         ensures sorted { IfOk result (λ keys. IsStrictlySortedBy by_bytes keys) }
         ensures nothing { ((settings self.old).leased && has_due (max now 1) (map self.old).expiries) ≡ false → (self.new ≡ self.old) × (disk.new ≡ disk.old) × IsOk result }
         ensures short { OnOk result (((settings self.old).leased && has_due (max now 1) (map self.old).expiries) ≡ true → short self.new) }
+        ensures short_kept { IfErr result (λ e. (shown self.new).ready → short self.old → short self.new) }
         ensures settings { settings self.new ≡ settings self.old };
 
     /// Writes its files anew: the map with the stored mark, without a record. The map stays. A crash inside leaves it, and a

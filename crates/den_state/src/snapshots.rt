@@ -73,6 +73,7 @@ fn is_fault(error: &Error) -> bool
         | Error::ProposeFailed
         | Error::UnorderedChunk { .. }
         | Error::Config { .. }
+        | Error::ConfigFault
         | Error::StateMachineError => false,
     }
 }

@@ -14,7 +14,7 @@ use Rattle.den_map.specs.Journal.{all_recorded}
 use Rattle.den_map.specs.Order.{out_of_order}
 use Rattle.den_journal.specs.Shown.{held_in}
 use Rattle.den_journal.proofs.Moving.{writes_refused}
-use Rattle.den_journal.proofs.Seen.{writes_part}
+use Rattle.den_journal.proofs.Seen.{writes_part, refused_ready}
 use Rattle.den_state.specs.declared.stored_map.StoredMap.{StoredMap}
 use Rattle.den_state.specs.FileState.{map_held, state_lies, stored_of}
 use Rattle.den_state.specs.Folds.{held_map}
@@ -75,6 +75,12 @@ returns-in-Err-clause-writes g c =
     let after = after_records m c.held.result.now.map c.args.chunk.now c.of-records.result _ over c.of-records.ensures c.in_ok-journaled.ensures.lawful in
     let light = light_records m c.held.result.now.map c.args.chunk.now c.of-records.result _ over c.of-records.ensures c.in_ok-journaled.ensures.records in
     writes_part g.D.Disk State (held_in State (stored_from nothing_stored)) map_held (λ (v : Stored). v.map) _ _ _ _ _ _ (λ told. told) held_map (ap (map_by m) after) (λ n is. is ∙ light.0) (λ n never. absurd never) light.1 (λ _. tt) (Err _) (Err _) refl c.in-Err.ensures.writes
+
+pub returns-in-Err-clause-short_kept : goal.returns-in-Err-clause-short_kept
+returns-in-Err-clause-short_kept g c = λ ready short.
+    let same : c.change.new.self.held.tail ≡ c.args.self.now.journal.held.tail =
+    ap (λ (v : Stored). v.tail) (refused_ready g.D.Disk _ _ _ _ State _ _ c.in-Err.error ready c.in-Err.ensures.writes.refused) in
+    omega (arith, same, short)
 
 pub returns-in-Ok-clause-applied : goal.returns-in-Ok-clause-applied
 returns-in-Ok-clause-applied g c =

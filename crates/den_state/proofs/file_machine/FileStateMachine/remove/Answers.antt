@@ -109,6 +109,13 @@ returns-in-Err-clause-same g c =
     let same : c.change.new.self.held.map ≡ s.journal.held.map = ap (λ (v : Stored). v.map) (refused_same g.D.Disk _ _ _ _ State _ _ c.in-Err.error (wants_none c.args.moment r c.in_ok-due.ensures.region) c.in-Err.ensures.same c.in-Err.ensures.writes.refused) in
     λ i. record (same i) { mark = s.applied }
 
+pub returns-in-Err-clause-short_kept : goal.returns-in-Err-clause-short_kept
+returns-in-Err-clause-short_kept g c = λ short.
+    let r = c.in_ok-due.due.region in
+    let same : c.change.new.self.held.tail ≡ c.args.self.now.journal.held.tail =
+    ap (λ (v : Stored). v.tail) (refused_same g.D.Disk _ _ _ _ State _ _ c.in-Err.error (wants_none c.args.moment r c.in_ok-due.ensures.region) c.in-Err.ensures.same c.in-Err.ensures.writes.refused) in
+    omega (arith, same, short)
+
 pub returns-in-Ok-clause-region : goal.returns-in-Ok-clause-region
 returns-in-Ok-clause-region g c = λ tells.
     let s = c.args.self.now in
