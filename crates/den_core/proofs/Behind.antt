@@ -6,7 +6,7 @@ use Rattle.den_disk.specs.declared.place.Family.TheVariants.{Snapshot as snapsho
 use Rattle.den_disk.specs.Families.{OldOrNew}
 use Rattle.den_disk.specs.Files.{Files, Kind}
 use Rattle.den_codec.specs.declared.error.Error.{Error}
-use Rattle.den_codec.specs.declared.error.Error.TheVariants.{OutOfMemory, StorageIoError, DiskFull, LinkFault, DataCorruption, FeatureNotEnabled, ProposeFailed, UnorderedChunk, Config, StateMachineError}
+use Rattle.den_codec.specs.declared.error.Error.TheVariants.{OutOfMemory, StorageIoError, DiskFull, LinkFault, DataCorruption, FeatureNotEnabled, ProposeFailed, UnorderedChunk, Config, ConfigFault, StateMachineError}
 use Rattle.den_journal.specs.Writes.{GoesOn, DiskTells}
 use Rattle.den_model.specs.Entries.{LogEntry}
 use Rattle.den_model.specs.Grown.{appended, IsPurgedUpTo}
@@ -35,6 +35,7 @@ left_then FeatureNotEnabled failed untouched written other more fails still wrot
 left_then ProposeFailed failed untouched written other more fails still wrote left = fails
 left_then (UnorderedChunk index) failed untouched written other more fails still wrote left = fails
 left_then (Config place) failed untouched written other more fails still wrote left = fails
+left_then ConfigFault failed untouched written other more fails still wrote left = fails
 left_then StateMachineError failed untouched written other more fails still wrote left = fails
 
 module _ {D : Type 0} (disk : Ghosts D) (was mid now : Seen) (old between new : D) (says : Says) (to : Durable) (entries : List LogEntry) (sizes : PayloadSizes) (rise more : ℕ) {T : Type 0} (x : T)

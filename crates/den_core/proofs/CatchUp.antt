@@ -1,24 +1,31 @@
 -- The log's entries above the map's mark, and what applying them leaves.
-use Rattle.std.proofs.Common.{◌≡◌, ℕ, suc, ◌≤◌, ◌<◌, ◌+◌, ◌-◌, ◌^◌, ◌&&◌, ◌||◌, ◌==◌, Bool, true, false, List, [], ◌∷◌, length, get_or, Option, Some, None, IsSome, Result, Ok, Err, IfErr, cond, nat_le, nat_lt, if◌then◌else◌, inl, inr, refl, sym, ◌∙◌, ap, subst, arith}
+use Rattle.std.proofs.Common.{◌≡◌, ◌↔◌, ℕ, suc, ◌≤◌, ◌<◌, ◌+◌, ◌-◌, ◌^◌, ◌&&◌, ◌||◌, ◌==◌, Bool, true, false, List, [], ◌∷◌, length, get_or, Option, Some, None, IsSome, Result, Ok, Err, IfErr, cond, nat_le, nat_lt, if◌then◌else◌, not, inl, inr, refl, sym, ◌∙◌, ap, subst, arith}
 use Rattle.std.proofs.lemmas.Bool.{cases_lt, le-leb, lt-leb, le-ltb, lt-ltb, eqb-true, ltb-true, leb-true}
 use Rattle.den_model.specs.declared.command.Command.{Command}
 use Rattle.den_model.specs.declared.command.Command.TheVariants.{Noop, Insert, Delete, CompareAndSwap}
 use Rattle.den_model.specs.declared.log_id.HardState.{HardState}
 use Rattle.den_model.specs.Apply.{applied, carried_out, succeeds, with_pair}
 use Rattle.den_model.specs.Entries.{LogEntry, rise_above}
-use Rattle.den_model.specs.Image.{Corruption, or_corrupt, durable, term_of, gapless_from, applied_all}
-use Rattle.den_model.specs.Kv.{Durable}
+use Rattle.den_model.specs.Image.{Corruption, or_corrupt, durable, joined, term_of, gapless_from, applied_all}
+use Rattle.den_model.specs.declared.running.Running.{Running}
+use Rattle.den_model.specs.Crash.{Survives}
+use Rattle.den_model.specs.Kv.{Durable, Kv}
 use Rattle.den_model.specs.Log.{Log, floor, above, between, last_index, last_of}
 use Rattle.den_model.specs.MapState.{MapState, map_applied, map_applied_all}
-use Rattle.den_map.specs.Leases.{asks_lease, has_expiry}
+use Rattle.den_map.specs.Leases.{asks_lease, has_expiry, lacks_lease}
 use Rattle.den_map.specs.Order.{out_of_order}
 use Rattle.den_store.specs.Order.{IsInOrder}
 use Rattle.den_core.specs.Joined.{durable_is, found_is}
 use Rattle.den_core.specs.Opening.{agrees, is_exhausted, opening_refusal, refusal_by, refusal_for, IsLeft, IsOpeningFailure}
 use Rattle.den_journal.specs.Causes.{IsRefusal}
 use Rattle.den_codec.specs.declared.error.Error.{Error}
-use Rattle.den_core.specs.Parts.{durable_of, IsCaughtUp}
+use Rattle.den_disk.specs.declared.place.Family.TheVariants.{Log as log_family, Meta as meta_family, State as state_family}
+use Rattle.den_disk.specs.Families.{OldOrNew, SameOf, SparesImages}
+use Rattle.den_disk.specs.Files.{Content, Files, IsImage}
+use Rattle.den_core.specs.Parts.{durable_of, kv_of, IsCaughtUp}
 use Rattle.den_core.proofs.Durables.{AllUpTo, none_above, up_to_more, applied_is}
+use Rattle.den_core.proofs.Quiet.{stays}
+use Rattle.den_core.proofs.Spared.{gives_now, joined_is, same_gives, spared, state_moves, log_state, meta_state}
 
 -- both tests of a conjunction
 both : (a b : Bool) → (a && b) ≡ true → (a ≡ true) × (b ≡ true)
@@ -146,6 +153,52 @@ module _ (l : Log) (s : MapState) (es : List LogEntry) (left : IsLeft l s es) wh
   pub left_applied : (h : Option HardState) → durable l h s ≡ Some (durable_of h (map_applied_all s es))
   left_applied h = left_is h ∙ ap (λ d. Some d) (sym (applied_all_is h s es))
 
+-- ---- what a state machine that was started leaves
+
+-- what is left to apply, of the same map
+pub started_left : (l : Log) (s started : MapState) (es : List LogEntry) → started ≡ s → IsLeft l s es → IsLeft l started es
+started_left l s started es same left = subst (λ m. IsLeft l m es) (sym same) left
+
+-- and what they stand for, once all is applied
+pub started_applied : (l : Log) (h : Option HardState) (s started new : MapState) (es : List LogEntry) (running : Running) (kv : Kv) → started ≡ s → IsLeft l s es
+    → new ≡ map_applied_all started es → kv ≡ kv_of h new running → durable l h s ≡ Some kv.durable
+started_applied l h s started new es running kv same left applied_is kv_is =
+    ap (λ m. durable l h m) (sym same)
+    ∙ left_applied l started es (started_left l s started es same left) h
+    ∙ ap (λ m. Some (durable_of h m)) (sym applied_is)
+    ∙ ap (λ (k : Kv). Some k.durable) (sym kv_is)
+
+module _ (holdsG : Files → Option Log) (holdsT : Files → Option (Option HardState)) (holdsM : Files → Option MapState) where
+  -- nothing was done: files at rest stand for what they did
+  pub survives_still : (images : ℕ → Files → Type 0) (now : ℕ) (content : Content) (l : Log) (h : Option HardState) (s : MapState) (kv : Kv) → durable l h s ≡ Some kv.durable
+      → ((files : Files) → images now files ↔ IsImage content files)
+      → ((files : Files) → IsImage content files → holdsG files ≡ Some l) → ((files : Files) → IsImage content files → holdsT files ≡ Some h) → ((files : Files) → IsImage content files → holdsM files ≡ Some s)
+      → Survives (λ files. joined (holdsG files) (holdsT files) (holdsM files)) images now now [] kv []
+  survives_still images now content l h s kv is law log meta state = stays (λ files. joined (holdsG files) (holdsT files) (holdsM files)) images now now kv (record {
+    each = λ t files begun ended at.
+        let same : t ≡ now = omega arith in
+        let image = (law files).0 (subst (λ n. images n files) same at) in
+        joined_is (holdsG files) (holdsT files) (holdsM files) l h s (log files image) (meta files image) (state files image) ∙ is;
+  })
+
+  -- the map took up what was left, or did not: the files stand for the same
+  pub survives_catching_up : (old_at new_at : ℕ → Files → Type 0) (from to : ℕ) (content : Content) (l : Log) (h : Option HardState) (s started : MapState) (es : List LogEntry) (kv : Kv)
+      → started ≡ s → IsLeft l s es → durable l h s ≡ Some kv.durable
+      → ((files : Files) → old_at from files ↔ IsImage content files)
+      → ((files : Files) → IsImage content files → holdsG files ≡ Some l) → ((files : Files) → IsImage content files → holdsT files ≡ Some h)
+      → ((one other : Files) → SameOf log_family one other → holdsG other ≡ holdsG one) → ((one other : Files) → SameOf meta_family one other → holdsT other ≡ holdsT one)
+      → SparesImages state_family old_at new_at from to → OldOrNew holdsM new_at from to started (map_applied_all started es)
+      → Survives (λ files. joined (holdsG files) (holdsT files) (holdsM files)) new_at from to [] kv []
+  survives_catching_up old_at new_at from to content l h s started es kv same left is law log meta own_log own_meta spares moves =
+      let left_there = started_left l s started es same left in
+      let old : durable l h started ≡ Some kv.durable = ap (λ m. durable l h m) same ∙ is in
+      let new : durable l h (map_applied_all started es) ≡ Some kv.durable = left_again l started es left_there h ∙ sym (left_is l started es left_there h) ∙ old in
+      let holds : Files → Option Durable = λ files. joined (holdsG files) (holdsT files) (holdsM files) in
+      stays holds new_at from to kv (same_gives holds new_at from to kv.durable (state_moves holdsG holdsT holdsM new_at from to l h started (map_applied_all started es) kv.durable kv.durable old new
+      (spared holdsG state_family log_family old_at new_at from to l log_state own_log (gives_now holdsG (λ c. c ≡ content) old_at from content l law (λ files rest image. log files image) refl) spares)
+      (spared holdsT state_family meta_family old_at new_at from to h meta_state own_meta (gives_now holdsT (λ c. c ≡ content) old_at from content h law (λ files rest image. meta files image) refl) spares)
+      moves))
+
 -- ---- the last term and index
 
 swapped_term : (b : Bool) (d : Durable) (key value : List ℕ) (term : ℕ) → (if b then with_pair d key value term else d).term ≡ d.term
@@ -173,13 +226,14 @@ durable_by : (l : Log) (h : Option HardState) (s : MapState) (es : List LogEntry
 unfolding durable
 durable_by l h s es are = ap (λ x. if nat_le (floor l) s.mark.index && gapless_from (s.mark.index + 1) x then Some (applied_all (durable_of h s) x) else None) are
 
-pub refusal_is : (place : ℕ) (l : Log) (h : Option HardState) (s : MapState) (es : List LogEntry) → above s.mark.index l.entries ≡ es
-    → opening_refusal place l h s ≡ refusal_by place (agrees l s.mark.index es) (has_expiry s || asks_lease es) ((term_of h == 2 ^ 64 - 1) || (last_of s.mark.index es == 2 ^ 64 - 1))
-refusal_is place l h s es are =
+pub refusal_is : (leased : Bool) (place : ℕ) (l : Log) (h : Option HardState) (s : MapState) (es : List LogEntry) → above s.mark.index l.entries ≡ es
+    → opening_refusal leased place l h s
+    ≡ refusal_by place (agrees l s.mark.index es) (not leased && (has_expiry s || asks_lease es)) ((term_of h == 2 ^ 64 - 1) || (last_of s.mark.index es == 2 ^ 64 - 1))
+refusal_is leased place l h s es are =
     let ends = ends_of (durable_of h s) es in
-    let lease = has_expiry s || asks_lease es in
+    let lease = not leased && (has_expiry s || asks_lease es) in
     let corrupt : Corruption = record { place = place; offset = 0 } in
-    ap (λ x. refusal_for (has_expiry s || asks_lease x) (or_corrupt corrupt (durable l h s))) are
+    ap (λ x. refusal_for (not leased && (has_expiry s || asks_lease x)) (or_corrupt corrupt (durable l h s))) are
     ∙ ap (λ d. refusal_for lease (or_corrupt corrupt d)) (durable_by l h s es are)
     ∙ refusal_at place (agrees l s.mark.index es) lease (applied_all (durable_of h s) es)
     ∙ ap (λ n. refusal_by place (agrees l s.mark.index es) lease ((n == 2 ^ 64 - 1) || ((applied_all (durable_of h s) es).last_index == 2 ^ 64 - 1))) ends.0
@@ -191,35 +245,37 @@ unrefused place true false exhausted none = (refl, refl)
 unrefused place true true exhausted none = cc
 unrefused place false lease exhausted none = cc
 
--- neither of two holds
-neither : (a b : Bool) → (a || b) ≡ false → (a ≡ false) × (b ≡ false)
-neither false false none = (refl, refl)
-neither false true none = cc
-neither true b none = cc
+-- where none is lacking, no entry lacks one
+unlacked : (leased has asks : Bool) → (not leased && (has || asks)) ≡ false → (asks && not leased) ≡ false
+unlacked true has true none = refl
+unlacked true has false none = refl
+unlacked false has false none = refl
+unlacked false true true none = cc
+unlacked false false true none = cc
 
-module _ (place : ℕ) (l : Log) (h : Option HardState) (s : MapState) (mark : ℕ) (es : List LogEntry) (lease : Bool) (result : Option Error) (is_mark : mark ≡ s.mark.index) (are : es ≡ above mark l.entries)
-    (is_lease : lease ≡ (has_expiry s || asks_lease es))
+module _ (leased : Bool) (place : ℕ) (l : Log) (h : Option HardState) (s : MapState) (mark : ℕ) (es : List LogEntry) (lease : Bool) (result : Option Error) (is_mark : mark ≡ s.mark.index) (are : es ≡ above mark l.entries)
+    (is_lease : lease ≡ (not leased && (has_expiry s || asks_lease es)))
     (is : result ≡ refusal_by place (agrees l mark es) lease ((term_of h == 2 ^ 64 - 1) || (last_of mark es == 2 ^ 64 - 1))) where
   here : above s.mark.index l.entries ≡ es
   here = ap (λ n. above n l.entries) (sym is_mark) ∙ sym are
 
-  same : refusal_by place (agrees l s.mark.index es) (has_expiry s || asks_lease es) ((term_of h == 2 ^ 64 - 1) || (last_of s.mark.index es == 2 ^ 64 - 1)) ≡ result
-  same = ap (λ n. refusal_by place (agrees l n es) (has_expiry s || asks_lease es) ((term_of h == 2 ^ 64 - 1) || (last_of n es == 2 ^ 64 - 1))) (sym is_mark)
+  same : refusal_by place (agrees l s.mark.index es) (not leased && (has_expiry s || asks_lease es)) ((term_of h == 2 ^ 64 - 1) || (last_of s.mark.index es == 2 ^ 64 - 1)) ≡ result
+  same = ap (λ n. refusal_by place (agrees l n es) (not leased && (has_expiry s || asks_lease es)) ((term_of h == 2 ^ 64 - 1) || (last_of n es == 2 ^ 64 - 1))) (sym is_mark)
       ∙ ap (λ b. refusal_by place (agrees l mark es) b ((term_of h == 2 ^ 64 - 1) || (last_of mark es == 2 ^ 64 - 1))) (sym is_lease) ∙ sym is
 
-  pub refused_here : opening_refusal place l h s ≡ result
-  refused_here = refusal_is place l h s es here ∙ same
+  pub refused_here : opening_refusal leased place l h s ≡ result
+  refused_here = refusal_is leased place l h s es here ∙ same
 
-  free : result ≡ None → (agrees l s.mark.index es ≡ true) × ((has_expiry s || asks_lease es) ≡ false)
-  free none = unrefused place (agrees l s.mark.index es) (has_expiry s || asks_lease es) ((term_of h == 2 ^ 64 - 1) || (last_of s.mark.index es == 2 ^ 64 - 1)) (same ∙ none)
+  free : result ≡ None → (agrees l s.mark.index es ≡ true) × ((not leased && (has_expiry s || asks_lease es)) ≡ false)
+  free none = unrefused place (agrees l s.mark.index es) (not leased && (has_expiry s || asks_lease es)) ((term_of h == 2 ^ 64 - 1) || (last_of s.mark.index es == 2 ^ 64 - 1)) (same ∙ none)
 
   pub left_here : result ≡ None → IsLeft l s es
   left_here none =
       let two = both (nat_le (floor l) s.mark.index) (gapless_from (s.mark.index + 1) es) (free none).0 in
       record { purged = leb-true (floor l) s.mark.index two.0; are = here; run = two.1 }
 
-  pub free_here : result ≡ None → asks_lease es ≡ false
-  free_here none = (neither (has_expiry s) (asks_lease es) (free none).1).1
+  pub free_here : result ≡ None → lacks_lease leased es ≡ false
+  free_here none = unlacked leased (has_expiry s) (asks_lease es) (free none).1
 
 pub none_some : {X : Type 0} (o : Option X) → o ≡ None → IsSome o → ⊥
 none_some None none some = cc

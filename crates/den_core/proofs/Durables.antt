@@ -12,7 +12,7 @@ use Rattle.den_model.specs.Image.{durable, term_of}
 use Rattle.den_model.specs.Kv.{Durable}
 use Rattle.den_model.specs.Log.{Log, above, below, changed}
 use Rattle.den_model.specs.MapState.{MapState, part_of, map_applied}
-use Rattle.den_model.specs.Step.{has_ttl, next_entry}
+use Rattle.den_model.specs.Step.{next_entry}
 use Rattle.den_model.specs.declared.running.Running.{Running}
 use Rattle.den_core.specs.Joined.{found_is, durable_is}
 use Rattle.den_core.specs.Parts.{durable_of, kv_of, IsCaughtUp}
@@ -110,21 +110,12 @@ next_is h s running index term moment command e is same_index same_term = is
 pub next_index : (s : MapState) (index term moment : ℕ) (command : Command) (e : LogEntry) → e ≡ record { index = index + 1; term = term; moment = moment; command = command } → index ≡ s.mark.index → e.index ≡ s.mark.index + 1
 next_index s index term moment command e is same_index = ap (λ (x : LogEntry). x.index) is ∙ ap (λ n. n + 1) same_index
 
--- a command without a time to live does the same at any moment
-carried_at_any : (d : Durable) (term moment other : ℕ) (command : Command) → has_ttl command ≡ false → carried_out d term moment command ≡ carried_out d term other command
-carried_at_any d term moment other Noop no_ttl = refl
-carried_at_any d term moment other (Insert key value None) no_ttl = refl
-carried_at_any d term moment other (Insert key value (Some seconds)) no_ttl = absurd (cc no_ttl)
-carried_at_any d term moment other (Delete key) no_ttl = refl
-carried_at_any d term moment other (CompareAndSwap key expected value) no_ttl = refl
-
--- so does its entry
-pub applied_next : (h : Option HardState) (s : MapState) (running : Running) (index term moment time : ℕ) (command : Command) (e : LogEntry)
-    → e ≡ record { index = index + 1; term = term; moment = moment; command = command } → index ≡ s.mark.index → term ≡ term_of h → has_ttl command ≡ false
-    → applied (durable_of h s) e ≡ applied (durable_of h s) (next_entry (kv_of h s running) time command)
-applied_next h s running index term moment time command e is same_index same_term no_ttl =
+-- its entry leaves what that one does
+pub applied_next : (h : Option HardState) (s : MapState) (running : Running) (index term moment : ℕ) (command : Command) (e : LogEntry)
+    → e ≡ record { index = index + 1; term = term; moment = moment; command = command } → index ≡ s.mark.index → term ≡ term_of h
+    → applied (durable_of h s) e ≡ applied (durable_of h s) (next_entry (kv_of h s running) moment command)
+applied_next h s running index term moment command e is same_index same_term =
     ap (applied (durable_of h s)) (next_is h s running index term moment command e is same_index same_term)
-    ∙ ap (λ (d : Durable). let x : Durable = record d { last_index = s.mark.index + 1; last_term = term_of h } in x) (carried_at_any (durable_of h s) (term_of h) moment time command no_ttl)
 
 pub caught_up_now : (l : Log) (s : MapState) (e : LogEntry) (l2 : Log) (s2 : MapState) → IsCaughtUp l s → e.index ≡ s.mark.index + 1
     → l2 ≡ changed l (Append (e ∷ [])) → s2 ≡ map_applied s e → IsCaughtUp l2 s2

@@ -23,7 +23,7 @@ turns_none kv [] = refl
 turns_none kv (f ∷ all) = refl
 
 -- one reading more, where a frame is left
-turns_push : (kv : Kv) (all : List Frame) (readings : List ℕ) (frame : Frame) (rest : List Frame) (reading : ℕ) → drop (length readings) all ≡ frame ∷ rest
+pub turns_push : (kv : Kv) (all : List Frame) (readings : List ℕ) (frame : Frame) (rest : List Frame) (reading : ℕ) → drop (length readings) all ≡ frame ∷ rest
     → turns kv all (readings ++ reading ∷ []) ≡ turns kv all readings ++ turn (after kv (turns kv all readings)) frame (moment_of reading)
 turns_push kv [] [] frame rest reading e = cc
 turns_push kv (f ∷ all) [] frame rest reading e =

@@ -5,7 +5,7 @@ use Rattle.den_model.specs.Kv.{Kv}
 use Rattle.den_model.specs.Log.{Log}
 use Rattle.den_model.specs.Plan.{after, output}
 use Rattle.den_model.specs.Step.{Step}
-use Rattle.den_model.proofs.Grown.{log_after, log_twice}
+use Rattle.den_model.proofs.Grown.{log_twice}
 use Rattle.den_model.proofs.Runs.{after_append, output_append}
 use Rattle.den_core.specs.Full.{IsBegun, IsReached}
 
@@ -16,7 +16,7 @@ begun_reached first old steps kv log next begun = record {
   rest = begun.rest;
   parts = begun.parts;
   state = begun.state;
-  left_is = (log_after old log first begun.made begun.left_is.0, sym begun.left_is.1);
+  left_is = (begun.left_is.0, sym begun.left_is.1);
 }
 
 -- behind steps that were made, whose output was sent

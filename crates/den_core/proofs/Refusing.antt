@@ -2,7 +2,7 @@
 use Rattle.std.proofs.Common.{◌≡◌, ◌⊎◌, ◌↔◌, inl, inr, ℕ, Bool, true, false, ◌||◌, IsTrue, Result, Ok, Err, OnOk, IfErr, refl, sym, ◌∙◌, subst}
 use Rattle.std.specs.Result.{IsErrAnd}
 use Rattle.den_codec.specs.declared.error.Error.{Error}
-use Rattle.den_codec.specs.declared.error.Error.TheVariants.{OutOfMemory, StorageIoError, DiskFull, LinkFault, DataCorruption, FeatureNotEnabled, ProposeFailed, UnorderedChunk, Config, StateMachineError}
+use Rattle.den_codec.specs.declared.error.Error.TheVariants.{OutOfMemory, StorageIoError, DiskFull, LinkFault, DataCorruption, FeatureNotEnabled, ProposeFailed, UnorderedChunk, Config, ConfigFault, StateMachineError}
 use Rattle.den_journal.specs.Causes.{IsRefusal, IsOfDisk}
 use Rattle.den_core.specs.Parts.{HasFailed}
 use Rattle.den_core.specs.Refusals.{FailsOrStays}
@@ -19,6 +19,7 @@ fails_or_stays rose most FeatureNotEnabled failed untouched written cause memory
 fails_or_stays rose most ProposeFailed failed untouched written cause memory disk = absurd cause
 fails_or_stays rose most (UnorderedChunk index) failed untouched written cause memory disk = absurd cause
 fails_or_stays rose most (Config place) failed untouched written cause memory disk = absurd cause
+fails_or_stays rose most ConfigFault failed untouched written cause memory disk = absurd cause
 fails_or_stays rose most StateMachineError failed untouched written cause memory disk = absurd cause
 
 -- behind a write
@@ -32,6 +33,7 @@ fails_behind FeatureNotEnabled failed untouched written fails wrote = fails
 fails_behind ProposeFailed failed untouched written fails wrote = fails
 fails_behind (UnorderedChunk index) failed untouched written fails wrote = fails
 fails_behind (Config place) failed untouched written fails wrote = fails
+fails_behind ConfigFault failed untouched written fails wrote = fails
 fails_behind StateMachineError failed untouched written fails wrote = fails
 
 -- of a call that a longer one ends with
@@ -46,6 +48,7 @@ left_weaker FeatureNotEnabled failed untouched written more so left = left
 left_weaker ProposeFailed failed untouched written more so left = left
 left_weaker (UnorderedChunk index) failed untouched written more so left = left
 left_weaker (Config place) failed untouched written more so left = left
+left_weaker ConfigFault failed untouched written more so left = left
 left_weaker StateMachineError failed untouched written more so left = left
 
 -- want of memory before a write
@@ -78,6 +81,7 @@ refusal_behind rose more most same FeatureNotEnabled so is cause = cause
 refusal_behind rose more most same ProposeFailed so is cause = cause
 refusal_behind rose more most same (UnorderedChunk index) so is cause = cause
 refusal_behind rose more most same (Config place) so is cause = cause
+refusal_behind rose more most same ConfigFault so is cause = cause
 refusal_behind rose more most same StateMachineError so is cause = cause
 
 -- three facts of a refusal as one

@@ -43,10 +43,14 @@ unfolding AllUpTo
 last_up_to most index [] le within = le
 last_up_to most index (e ∷ es) le within = last_up_to most e.index es within.0 within.1
 
+-- a log whose entries the map has all ends at the mark or before it
+pub last_within : (l : Log) (s : MapState) → IsCaughtUp l s → last_index l ≤ s.mark.index
+last_within l s caught = last_up_to s.mark.index (floor l) l.entries caught.purged (up_to s.mark.index l.entries caught.applied)
+
 -- a log that is too long has entries, all of them up to the mark
 pub mark_above : (l : Log) (s : MapState) (most : ℕ) → IsCaughtUp l s → nat_lt most (last_index l - floor l) ≡ true → floor l < s.mark.index
 mark_above l s most caught long =
-    omega (arith, ltb-true most (last_index l - floor l) long, last_up_to s.mark.index (floor l) l.entries caught.purged (up_to s.mark.index l.entries caught.applied))
+    omega (arith, ltb-true most (last_index l - floor l) long, last_within l s caught)
 
 -- no entry, behind a boundary
 bare : LogId → Log

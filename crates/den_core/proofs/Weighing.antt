@@ -12,6 +12,7 @@ use Rattle.den_model.specs.Image.{slot_of}
 use Rattle.den_journal.specs.Causes.{IsFullFor, IsTooShort}
 use Rattle.den_journal.specs.Drafts.{IsSizeOf}
 use Rattle.den_core.specs.Full.{IsFullBy, IsSlotTooShort, IsStepTooShort}
+use Rattle.den_core.specs.Weights.{ask_rise}
 use Rattle.den_core.specs.PayloadSizes.{PayloadSizes, chunk_sizes, entry_sizes, step_sizes, trim_sizes}
 use Rattle.den_model.specs.declared.log_id.LogId.{LogId}
 use Rattle.den_model.specs.declared.region.LogRegion.TheVariants.{Append}
@@ -19,7 +20,7 @@ use Rattle.den_model.specs.Kv.{Kv}
 use Rattle.den_model.specs.Log.{Log, changed}
 use Rattle.den_model.specs.MapState.{MapState, map_applied}
 use Rattle.den_codec.specs.declared.error.Error.{Error}
-use Rattle.den_codec.specs.declared.error.Error.TheVariants.{OutOfMemory, StorageIoError, DiskFull, LinkFault, DataCorruption, FeatureNotEnabled, ProposeFailed, UnorderedChunk, Config, StateMachineError}
+use Rattle.den_codec.specs.declared.error.Error.TheVariants.{OutOfMemory, StorageIoError, DiskFull, LinkFault, DataCorruption, FeatureNotEnabled, ProposeFailed, UnorderedChunk, Config, ConfigFault, StateMachineError}
 use Rattle.den_model.specs.declared.command.Command.{Command}
 use Rattle.den_model.specs.declared.command.WriteOperation.{WriteOperation}
 use Rattle.den_model.specs.declared.command.WriteOperation.TheVariants as operation
@@ -38,7 +39,7 @@ use Rattle.den_model.specs.Reading.{request_in}
 use Rattle.den_model.specs.Words.{IsBytes, IsRequestWord}
 use Rattle.den_model.proofs.RequestWords.{request_found}
 use Rattle.den_core.specs.Input.{HasCome}
-use Rattle.den_core.specs.Weights.{frame_rise, served_weight, write_rise}
+use Rattle.den_core.specs.Weights.{ask_rise, frame_rise, served_weight, write_rise}
 
 -- ---- what is told
 
@@ -100,6 +101,7 @@ heavier told more short then most same weight above FeatureNotEnabled so means i
 heavier told more short then most same weight above ProposeFailed so means is le full = tt
 heavier told more short then most same weight above (UnorderedChunk index) so means is le full = tt
 heavier told more short then most same weight above (Config place) so means is le full = tt
+heavier told more short then most same weight above ConfigFault so means is le full = tt
 heavier told more short then most same weight above StateMachineError so means is le full = tt
 
 -- at the exit of a call that answers its callee's refusal
@@ -128,6 +130,7 @@ full_by told family files most weight adds drafts sizes FeatureNotEnabled added 
 full_by told family files most weight adds drafts sizes ProposeFailed added drafted full heavy = tt
 full_by told family files most weight adds drafts sizes (UnorderedChunk index) added drafted full heavy = tt
 full_by told family files most weight adds drafts sizes (Config place) added drafted full heavy = tt
+full_by told family files most weight adds drafts sizes ConfigFault added drafted full heavy = tt
 full_by told family files most weight adds drafts sizes StateMachineError added drafted full heavy = tt
 
 -- ---- what an entry writes
@@ -214,7 +217,7 @@ asked_length : (w : ClientWriteRequest) (o : WriteOperation) → w.command ≡ S
 unfolding u32_word
 asked_length w o is = omega (arith, operation_length o, ap (λ x. length (operation_word x)) is)
 
-pub asked_rises : (w : ClientWriteRequest) (o : WriteOperation) → w.command ≡ Some o → write_rise (command_of o) ≤ frame_rise (Good (request.Write w))
+pub asked_rises : (w : ClientWriteRequest) (o : WriteOperation) → w.command ≡ Some o → write_rise (command_of o) ≤ ask_rise (Good (request.Write w))
 asked_rises w o is = omega (arith, asked_length w o is)
 
 -- ---- requests that were read

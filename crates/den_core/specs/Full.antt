@@ -4,12 +4,12 @@ use Rattle.den_disk.specs.declared.place.Family.{Family}
 use Rattle.den_disk.specs.Files.{Files}
 use Rattle.den_gate.specs.Draft.{other_slot}
 use Rattle.den_codec.specs.declared.error.Error.{Error}
-use Rattle.den_codec.specs.declared.error.Error.TheVariants.{OutOfMemory, StorageIoError, DiskFull, LinkFault, DataCorruption, FeatureNotEnabled, ProposeFailed, UnorderedChunk, Config, StateMachineError}
-use Rattle.den_model.specs.Grown.{appended, IsLogAfter}
+use Rattle.den_codec.specs.declared.error.Error.TheVariants.{OutOfMemory, StorageIoError, DiskFull, LinkFault, DataCorruption, FeatureNotEnabled, ProposeFailed, UnorderedChunk, Config, ConfigFault, StateMachineError}
+use Rattle.den_model.specs.Grown.{IsLogAfter}
 use Rattle.den_model.specs.Image.{slot_of}
 use Rattle.den_model.specs.Kv.{Kv}
 use Rattle.den_model.specs.Log.{Log}
-use Rattle.den_model.specs.Plan.{after, logged, output}
+use Rattle.den_model.specs.Plan.{after, output}
 use Rattle.den_model.specs.Step.{Step}
 use Rattle.den_journal.specs.Causes.{IsRoomOf, IsTooShort}
 use Rattle.den_core.specs.PayloadSizes.{PayloadSizes, step_sizes}
@@ -34,6 +34,7 @@ IsFullBy told short most weight FeatureNotEnabled = Unit {0}
 IsFullBy told short most weight ProposeFailed = Unit {0}
 IsFullBy told short most weight (UnorderedChunk index) = Unit {0}
 IsFullBy told short most weight (Config place) = Unit {0}
+IsFullBy told short most weight ConfigFault = Unit {0}
 IsFullBy told short most weight StateMachineError = Unit {0}
 
 -- ---- of a step
@@ -47,9 +48,9 @@ pub record IsNext (left : List Step → Log → Type 0) (first : Kv) (steps : Li
   pub state : kv ≡ after first made
   pub left_is : left made log
 
--- one of a call's steps: the entries of those before it joined the log, and they say nothing
+-- one of a call's steps: the log is one after those before it, and they say nothing
 abbrev pub IsBegun : Kv → Log → List Step → Kv → Log → Step → Type 0
-IsBegun first old steps = IsNext (λ made l. (l ≡ appended old (logged first made)) × (output first made ≡ [])) first steps
+IsBegun first old steps = IsNext (λ made l. IsLogAfter old first made l × (output first made ≡ [])) first steps
 
 -- one of a run's steps: the log is one after those before it, and just what they say was sent
 abbrev pub IsReached : Kv → Log → List Step → (sent : List ℕ) → Kv → Log → Step → Type 0

@@ -29,7 +29,7 @@ abbrev pub Found : ℕ → List ℕ → List ℕ → Option Frame → Type 0
 Found limit left rest None = (left ≡ []) × (rest ≡ [])
 Found limit left rest (Some frame) = frames limit left ≡ frame ∷ frames limit rest
 
--- so many bytes have a good frame's length and body among them
+-- so many bytes have a good frame's length and body among them, or a part of a bad frame
 abbrev pub HasCome : ℕ → Frame → Type 0
-HasCome taken Bad = Unit {0}
+HasCome taken Bad = 1 ≤ taken
 HasCome taken (Good request) = 8 + frame_size (Good request) ≤ taken

@@ -1,5 +1,7 @@
 pub mod Answers
 pub mod Asked
+pub mod Beginning
+pub mod Cores
 pub mod Early
 pub mod Full
 pub mod Input

@@ -21,9 +21,10 @@ abbrev pub refusal_for : Bool → Result Durable Corruption → Option Error
 refusal_for lease (Err c) = Some (DataCorruption c.place c.offset)
 refusal_for lease (Ok d) = if lease then Some FeatureNotEnabled else if is_exhausted d then Some ProposeFailed else None
 
--- what opening refuses of a log in this file, a hard state and a map; a log and a map that disagree stand for nothing
-abbrev pub opening_refusal : ℕ → Log → Option HardState → MapState → Option Error
-opening_refusal place l h s = refusal_for (has_expiry s || asks_lease (above s.mark.index l.entries)) (or_corrupt (record { place = place; offset = 0 }) (durable l h s))
+-- what opening refuses, with leases or without, of a log in this file, a hard state and a map; a log and a map that
+-- disagree stand for nothing
+abbrev pub opening_refusal : Bool → ℕ → Log → Option HardState → MapState → Option Error
+opening_refusal leased place l h s = refusal_for (not leased && (has_expiry s || asks_lease (above s.mark.index l.entries))) (or_corrupt (record { place = place; offset = 0 }) (durable l h s))
 
 -- whether the log's entries go on behind this index without a gap
 abbrev pub agrees : Log → ℕ → List LogEntry → Bool

@@ -1,10 +1,8 @@
 -- What an engine's three stores hold together, and when they are as an engine wants them.
-use Rattle.std.specs.Prelude.{◌≡◌, ◌≤◌, ◌⊎◌, ◌+◌, ℕ, Bool, true, false, [], Option, option_map}
+use Rattle.std.specs.Prelude.{◌≡◌, ◌≤◌, ◌⊎◌, ◌+◌, ℕ, ℤ, Bool, true, [], Option, Some}
 use Rattle.den_model.specs.declared.log_id.HardState.{HardState}
-use Rattle.den_model.specs.declared.log_id.VotedFor.{VotedFor}
 use Rattle.den_model.specs.declared.running.Running.{Running}
 use Rattle.den_model.specs.Kv.{Durable, Kv}
-use Rattle.den_model.specs.Step.{is_leader}
 use Rattle.den_model.specs.Log.{Log, floor, above}
 use Rattle.den_model.specs.MapState.{MapState, part_of}
 use Rattle.den_model.specs.Image.{term_of}
@@ -16,32 +14,29 @@ durable_of h s = part_of s (term_of h)
 abbrev pub kv_of : Option HardState → MapState → Running → Kv
 kv_of h s running = record { durable = durable_of h s; running = running }
 
--- a leader votes for itself
-abbrev pub vote_of : Running → ℕ → Option VotedFor
-vote_of running term = option_map (λ (id : ℕ). record { id = id; term = term }) running.members.current_leader_id
-
--- the hard state of a new term
-abbrev pub raised_of : Running → Option HardState → HardState
-raised_of running h = record { current_term = term_of h + 1; voted_for = vote_of running (term_of h + 1) }
+-- the hard state of a new term, in which this node votes for itself
+abbrev pub raised_by : (id : ℕ) → Option HardState → HardState
+raised_by id h = record { current_term = term_of h + 1; voted_for = Some (record { id = id; term = term_of h + 1 }) }
 
 -- the map has each entry of the log, and none above its mark was purged
 pub record IsCaughtUp (l : Log) (s : MapState) : Type 0 where
   pub purged : floor l ≤ s.mark.index
   pub applied : above s.mark.index l.entries ≡ []
 
--- it leads without a lease, and nobody watches
-pub record IsPlain (running : Running) : Type 0 where
-  pub leader : is_leader running.setting.role ≡ true
-  pub no_lease : running.setting.lease ≡ false
+-- The run's part goes with its core and its map: its role is the core's, a lease is configured where the map has one; and
+-- nobody watches.
+pub record GoesWith (role : ℤ) (leased : Bool) (running : Running) : Type 0 where
+  pub role_is : running.setting.role ≡ role
+  pub lease_is : running.setting.lease ≡ leased
   pub unwatched : running.watchers ≡ []
 
--- none of the three stores has failed, and they go together
-pub record IsReady (log_ready meta_ready state_ready : Type 0) (l : Log) (s : MapState) (running : Running) : Type 0 where
+-- none of the three stores has failed, and they go together, with the core and the run's part
+pub record IsReady (log_ready meta_ready state_ready : Type 0) (l : Log) (s : MapState) (role : ℤ) (leased : Bool) (running : Running) : Type 0 where
   pub log : log_ready
   pub meta : meta_ready
   pub state : state_ready
   pub caught_up : IsCaughtUp l s
-  pub plain : IsPlain running
+  pub goes_with : GoesWith role leased running
 
 -- one of the three stores has failed, or a step ended between its writes
 abbrev pub HasFailed : Bool → (log_ready meta_ready state_ready : Type 0) → Type 0

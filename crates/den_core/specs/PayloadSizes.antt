@@ -1,5 +1,5 @@
 -- What the steps of an engine write: the sizes of the payloads that go to each family's files.
-use Rattle.std.specs.Prelude.{◌≡◌, ℕ, ◌+◌, ◌-◌, List, [], ◌∷◌, nat_lt, true}
+use Rattle.std.specs.Prelude.{◌≡◌, ℕ, ◌+◌, ◌-◌, List, [], ◌∷◌, Some, nat_lt, true}
 use Rattle.den_disk.specs.declared.place.Family.{Family}
 use Rattle.den_disk.specs.declared.place.Family.TheVariants.{Log as log_family, Meta as meta_family, State as state_family, Snapshot as snapshot_family}
 use Rattle.den_model.specs.declared.log_id.HardState.{HardState}
@@ -13,7 +13,6 @@ use Rattle.den_model.specs.MapState.{MapState, map_applied_all}
 use Rattle.den_model.specs.Step.{Step, Raise, Noop, Cleanup, Ask, step}
 use Rattle.den_store.specs.Changes.{log_change, purge_change, state_change}
 use Rattle.den_state.specs.Changes.{chunk_change, cleanup_change}
-use Rattle.den_core.specs.Parts.{vote_of}
 use Rattle.den_core.specs.Trimmed.{mark_of}
 
 -- By family: the sizes of the payloads that may be added to its slot in use, and of those that may be put into its
@@ -69,13 +68,16 @@ entry_sizes most l m (e ∷ es) = record {
 abbrev pub map_of : Durable → MapState
 map_of d = record { pairs = d.pairs; expiries = d.expiries; mark = mark_of d }
 
--- the hard state of the next term
-abbrev pub next_hard_state : Kv → HardState
-next_hard_state kv = record { current_term = kv.durable.term + 1; voted_for = vote_of kv.running (kv.durable.term + 1) }
+-- the hard state of the next term, whoever is voted for
+abbrev pub next_term_sizes : Kv → PayloadSizes
+next_term_sizes kv = record {
+  adds = by_family no_size no_size no_size;
+  drafts = by_family no_size (λ n. (voter : ℕ) × (state_change (record { current_term = kv.durable.term + 1; voted_for = Some (record { id = voter; term = kv.durable.term + 1 }) })).drafts n) no_size;
+}
 
 -- A step, over a log that may hold so many entries behind it, and over a state.
 abbrev pub step_sizes : (most : ℕ) → Log → Kv → Step → PayloadSizes
-step_sizes most l kv Raise = hard_state_sizes (next_hard_state kv)
+step_sizes most l kv Raise = next_term_sizes kv
 step_sizes most l kv (Noop moment) = entry_sizes most l (map_of kv.durable) (step kv (Noop moment)).logged
 step_sizes most l kv (Cleanup moment) = cleanup_sizes (map_of kv.durable) moment
 step_sizes most l kv (Ask frame moment) = entry_sizes most l (map_of kv.durable) (step kv (Ask frame moment)).logged

@@ -1,21 +1,30 @@
 -- How much heavier the steps of an engine make it.
 use Rattle.std.specs.Prelude.{ℕ, ◌+◌, ◌*◌, length}
 use Rattle.den_model.specs.declared.command.Command.{Command}
+use Rattle.den_model.specs.declared.command.Command.TheVariants.{Noop}
 use Rattle.den_model.specs.declared.request.Frame.{Frame}
 use Rattle.den_model.specs.declared.request.Frame.TheVariants.{Good, Bad}
-use Rattle.den_model.specs.Sizes.{frame_size, step_rise, store_rise}
+use Rattle.den_model.specs.Sizes.{frame_size, store_rise}
 use Rattle.den_model.specs.Spelling.{command_word}
 use Rattle.den_core.specs.declared.ask.Asked.{Asked}
 use Rattle.den_core.specs.declared.ask.Asked.TheVariants.{Commit, Say}
 
--- a frame that is bad writes nothing
-abbrev pub frame_rise : Frame → ℕ
-frame_rise Bad = 0
-frame_rise (Good request) = step_rise (frame_size (Good request))
+-- a cleanup's region has a moment
+abbrev pub clean_rise : ℕ
+clean_rise = store_rise 0
 
--- the opening's steps write a hard state and an entry without effect
+-- what a frame asks for, behind the cleanup that may be due; a frame that is bad writes nothing
+abbrev pub ask_rise : Frame → ℕ
+ask_rise Bad = 0
+ask_rise (Good request) = 1792 + 8 * frame_size (Good request)
+
+-- a frame's turn: the cleanup that may be due, and what it asks for
+abbrev pub frame_rise : Frame → ℕ
+frame_rise frame = clean_rise + ask_rise frame
+
+-- the opening's steps write a hard state, an entry without effect and a cleanup
 abbrev pub opening_rise : ℕ
-opening_rise = 4096
+opening_rise = 3840
 
 -- what an engine comes to that began with this weight, by frames of so many bytes
 abbrev pub served_weight : (weight taken : ℕ) → ℕ
@@ -45,3 +54,7 @@ write_rise command = commit_rise command + trim_rise
 abbrev pub asked_rise : Asked → ℕ
 asked_rise (Commit command) = write_rise command
 asked_rise (Say reply) = 0
+
+-- a term is raised, and its first entry committed
+abbrev pub term_rise : ℕ
+term_rise = raise_rise + write_rise Noop

@@ -30,6 +30,7 @@ pub(crate) fn apply_at_rest<D: Disk, M: StateMachine<D>>(
     ensures applied { OnOk result (M.map state.new ≡ map_applied_all (M.map state.old) chunk.now) }
     ensures results { IfOk result (λ results. results ≡ results_of (M.map state.old) chunk.now) }
     ensures short { OnOk result (M.short state.new) }
+    ensures settings { M.settings state.new ≡ M.settings state.old }
     ensures ready { OnOk result (M.shown state.new).ready }
     ensures rests { OnOk result (IsTrue (D.kind disk.old).tells → AtRest (M.shown state.new) (M.map state.new) (D.content disk.new)) }
     ensures weight { OnOk result ((M.shown state.new).weight ≤ (M.shown state.old).weight + store_rise (entries_size chunk.now)) }

@@ -1,22 +1,24 @@
 //! What a frame asks for, before anything is done.
-ghost use Rattle.std.specs.Prelude.{◌≡◌, ◌≤◌, ℕ, Option, IfOk, IfErr, Some, None, true, filter_map};
+ghost use Rattle.std.specs.Prelude.{◌≡◌, ◌≤◌, ℕ, IfOk, IfErr, None, true, filter_map};
 ghost use Rattle.den_codec.specs.declared.error.Error.TheVariants.{OutOfMemory};
+ghost use Rattle.den_model.specs.declared.reply.ErrorCode.TheVariants.{NotLeader};
 ghost use Rattle.den_model.specs.declared.request.Frame.TheVariants.{Good};
 ghost use Rattle.den_model.specs.Kv.{Durable};
-ghost use Rattle.den_model.specs.Step.{answer, answer_to, answered, command_of, failed, has_ttl, is_built, is_built_operation, pair_at, write};
+ghost use Rattle.den_model.specs.Step.{answer, answer_to, answered, command_of, failed, held_pair, is_built, is_leader, may_be_old, read, scan, write};
 ghost use Rattle.den_model.specs.MapState.{part_of};
+ghost use Rattle.den_core.specs.declared.ask.Asked.TheVariants.{Say};
 ghost use Rattle.den_core.specs.Asked.{outcome_of, HasRoom};
-ghost use Rattle.den_core.specs.Parts.{IsPlain};
-ghost use Rattle.den_core.specs.Weights.{asked_rise, frame_rise, write_rise};
+ghost use Rattle.den_core.specs.Weights.{ask_rise, asked_rise, write_rise};
 
 use den_codec::{
-    Blob, ClientResponse, ClientResponsePayload, Command, Error, ErrorCode, Frame, KvEntry,
-    Refusal, Reply, Request, Rows, Running, WriteOperation,
+    Blob, ClientReadRequest, ClientResponse, ClientResponsePayload, Command, Error, ErrorCode,
+    Frame, KvEntry, Label, LeaderHint, ReadConsistencyPolicy, Refusal, Reply, Request, Rows,
+    Running, WriteOperation,
 };
 use den_disk::Disk;
 use den_map::has_ttl;
 use den_state::StateMachine;
-use std::alloc::Global;
+use std::alloc::{AllocError, Global};
 
 /// What a frame comes to: an entry that is committed, or a reply at once.
 #[derive(Debug, Drop)]
@@ -76,26 +78,68 @@ fn command_of(operation: WriteOperation) -> Command
     }
 }
 
-/// What a leader makes of a command behind this index.
-fn ask_write(running: &Running, last_index: u64, command: Command) -> Asked
-    requires plain { IsPlain running.now }
-    ensures asked { (d : Durable) (moment : ℕ) → d.last_index ≡ last_index
-        → write (record { durable = d; running = running.now }) moment command ≡ outcome_of (record { durable = d; running = running.now }) moment result }
-    ensures room { HasRoom last_index result }
-    ensures rise { asked_rise result ≤ write_rise command }
+/// Whether the core leads.
+pub(crate) fn leads(running: &Running) -> bool
+    ensures { result ≡ is_leader running.now.setting.role }
 {
+    running.setting.role == 2
+}
+
+/// The same hint.
+fn copy_hint(alloc: Global, hint: &Option<LeaderHint>) -> Result<Option<LeaderHint>, AllocError>
+    ensures { IfOk result (λ copy. copy ≡ hint.now) }
+{
+    match hint {
+        Some(hint) => Ok(Some(LeaderHint {
+            leader_id: hint.leader_id,
+            address: Label::of(alloc, hint.address.as_str())?,
+        })),
+        None => Ok(None),
+    }
+}
+
+/// What one that does not lead says.
+fn not_leader(alloc: Global, running: &Running) -> Result<Reply, Error>
+    ensures reply { IfOk result (λ reply. reply ≡ failed NotLeader running.now.setting.hint) }
+    ensures refused { IfErr result (λ e. e ≡ OutOfMemory) }
+{
+    let leader_hint = copy_hint(alloc, &running.setting.hint)?;
+    Ok(Reply::Response(ClientResponse {
+        error: ErrorCode::NotLeader,
+        leader_hint,
+        retry_after_ms: None,
+        result: None,
+    }))
+}
+
+/// What a write comes to behind this index.
+fn ask_write(
+    alloc: Global,
+    running: &Running,
+    last_index: u64,
+    command: Command,
+) -> Result<Asked, Error>
+    ensures asked { IfOk result (λ asked. (d : Durable) (moment : ℕ) → d.last_index ≡ last_index
+        → write (record { durable = d; running = running.now }) moment command ≡ outcome_of (record { durable = d; running = running.now }) moment asked) }
+    ensures room { IfOk result (HasRoom running.now.setting last_index) }
+    ensures rise { IfOk result (λ asked. asked_rise asked ≤ write_rise command) }
+    ensures refused { IfErr result (λ e. e ≡ OutOfMemory) }
+{
+    if !leads(running) {
+        return Ok(Asked::Say(not_leader(alloc, running)?));
+    }
     if has_ttl(&command) && !running.setting.lease {
-        return Asked::Say(Reply::Refused(Refusal::FeatureNotEnabled));
+        return Ok(Asked::Say(Reply::Refused(Refusal::FeatureNotEnabled)));
     }
     if last_index == u64::MAX {
-        return Asked::Say(failed(ErrorCode::ProposeFailed));
+        return Ok(Asked::Say(failed(ErrorCode::ProposeFailed)));
     }
-    Asked::Commit(command)
+    Ok(Asked::Commit(command))
 }
 
 /// The pair at a key, if it is held.
-fn pair_at<D: Disk, M: StateMachine<D>>(state: &M, key: &Blob) -> Result<Option<KvEntry>, Error>
-    ensures pair { IfOk result (λ pair. pair ≡ pair_at (part_of (M.map state.now) 0) key.now) }
+fn held_pair<D: Disk, M: StateMachine<D>>(state: &M, key: &Blob) -> Result<Option<KvEntry>, Error>
+    ensures pair { IfOk result (λ pair. pair ≡ held_pair (part_of (M.map state.now) 0) key.now) }
     ensures refused { IfErr result (λ e. e ≡ OutOfMemory) }
 {
     match state.get(key.as_slice()) {
@@ -113,94 +157,131 @@ fn pairs_at<D: Disk, M: StateMachine<D>>(
     state: &M,
     keys: &[Blob],
 ) -> Result<Rows<KvEntry>, Error>
-    ensures pairs { IfOk result (λ pairs. pairs ≡ filter_map (pair_at (part_of (M.map state.now) 0)) keys.now) }
+    ensures pairs { IfOk result (λ pairs. pairs ≡ filter_map (held_pair (part_of (M.map state.now) 0)) keys.now) }
     ensures refused { IfErr result (λ e. e ≡ OutOfMemory) }
 {
     let mut pairs = Vec::new(alloc);
     for key in keys {
-        if let Some(pair) = pair_at::<D, M>(state, key)? {
+        if let Some(pair) = held_pair::<D, M>(state, key)? {
             pairs.push(pair)?;
         }
     }
     Ok(Rows::of(pairs))
 }
 
-/// Whether this version carries out the operation: a put without a time to live, or a delete.
-fn is_built_operation(operation: &Option<WriteOperation>) -> bool
-    ensures { result ≡ is_built_operation operation.now }
+/// Whether a read with this policy may be answered by one that does not lead.
+fn may_be_old(policy: &Option<ReadConsistencyPolicy>) -> bool
+    ensures { result ≡ may_be_old policy.now }
 {
-    match operation {
-        Some(WriteOperation::Insert { ttl_secs, .. }) => ttl_secs.is_none(),
-        Some(WriteOperation::Delete { .. }) => true,
-        Some(WriteOperation::CompareAndSwap { .. }) | None => false,
+    match policy {
+        Some(ReadConsistencyPolicy::EventualConsistency) => true,
+        Some(ReadConsistencyPolicy::LinearizableRead | ReadConsistencyPolicy::LeaseRead) | None => {
+            false
+        }
     }
 }
 
-/// Whether this version answers the request: a put without a time to live, a delete, or a read of one key.
+/// What a read is answered.
+fn ask_read<D: Disk, M: StateMachine<D>>(
+    alloc: Global,
+    state: &M,
+    running: &Running,
+    request: &ClientReadRequest,
+) -> Result<Reply, Error>
+    ensures said { IfOk result (λ reply. (term moment : ℕ)
+        → read (record { durable = part_of (M.map state.now) term; running = running.now }) request.now.consistency_policy request.now.keys
+        ≡ outcome_of (record { durable = part_of (M.map state.now) term; running = running.now }) moment (Say reply)) }
+    ensures refused { IfErr result (λ e. e ≡ OutOfMemory) }
+{
+    if !leads(running) && !may_be_old(&request.consistency_policy) {
+        return not_leader(alloc, running);
+    }
+    let entries = pairs_at::<D, M>(alloc, state, request.keys.as_slice())?;
+    Ok(answered(ClientResponsePayload::Read { entries }))
+}
+
+/// What a scan is answered.
+fn ask_scan<D: Disk, M: StateMachine<D>>(
+    alloc: Global,
+    state: &M,
+    running: &Running,
+    prefix: &Blob,
+) -> Result<Reply, Error>
+    ensures said { IfOk result (λ reply. (term moment : ℕ)
+        → scan (record { durable = part_of (M.map state.now) term; running = running.now }) prefix.now
+        ≡ outcome_of (record { durable = part_of (M.map state.now) term; running = running.now }) moment (Say reply)) }
+    ensures refused { IfErr result (λ e. e ≡ OutOfMemory) }
+{
+    if !leads(running) {
+        return not_leader(alloc, running);
+    }
+    Ok(Reply::Scan(state.scan_prefix(prefix.as_slice())?))
+}
+
+/// Whether this version answers the request: writes, reads and scans.
 fn is_built(request: &Request) -> bool
     ensures { result ≡ is_built request.now }
 {
     match request {
-        Request::Write(write) => is_built_operation(&write.command),
-        Request::Read(read) => read.keys.as_slice().len() == 1,
-        Request::Scan { .. } | Request::Watch { .. } | Request::Members { .. } => false,
+        Request::Write(_) | Request::Read(_) | Request::Scan { .. } => true,
+        Request::Watch { .. } | Request::Members { .. } => false,
     }
 }
 
-/// What a leader makes of a request that this version answers.
+/// What a request that this version answers comes to.
 fn ask_request<D: Disk, M: StateMachine<D>>(
     alloc: Global,
     state: &M,
     running: &Running,
     request: Request,
 ) -> Result<Asked, Error>
-    requires plain { IsPlain running.now }
     requires built { is_built request ≡ true }
     ensures asked { IfOk result (λ asked. (term moment : ℕ)
         → answer_to (record { durable = part_of (M.map state.now) term; running = running.now }) moment request
         ≡ outcome_of (record { durable = part_of (M.map state.now) term; running = running.now }) moment asked) }
-    ensures room { IfOk result (λ asked. HasRoom (M.map state.now).mark.index asked) }
-    ensures rise { IfOk result (λ asked. asked_rise asked ≤ frame_rise (Good request)) }
+    ensures room { IfOk result (HasRoom running.now.setting (M.map state.now).mark.index) }
+    ensures rise { IfOk result (λ asked. asked_rise asked ≤ ask_rise (Good request)) }
     ensures refused { IfErr result (λ e. e ≡ OutOfMemory) }
 {
     match request {
         Request::Write(write) => match write.command {
-            Some(operation) => Ok(ask_write(
+            Some(operation) => ask_write(
+                alloc,
                 running,
                 state.last_applied().index,
                 command_of(operation),
-            )),
+            ),
             None => Ok(Asked::Say(failed(ErrorCode::InvalidRequest))),
         },
-        Request::Read(read) => {
-            let entries = pairs_at::<D, M>(alloc, state, read.keys.as_slice())?;
-            Ok(Asked::Say(answered(ClientResponsePayload::Read { entries })))
+        Request::Read(read) => Ok(Asked::Say(ask_read::<D, M>(alloc, state, running, &read)?)),
+        Request::Scan { prefix, .. } => {
+            Ok(Asked::Say(ask_scan::<D, M>(alloc, state, running, &prefix)?))
         }
-        Request::Scan { .. } | Request::Watch { .. } | Request::Members { .. } => {
+        Request::Watch { .. } | Request::Members { .. } => {
             Ok(Asked::Say(Reply::Refused(Refusal::NotBuilt)))
         }
     }
 }
 
-/// What a leader makes of a frame. A request that is not built yet is refused by name, and so is a bad frame.
+/// What a frame comes to. A bad one is an invalid request, and a request that is not built yet is refused by name.
 pub(crate) fn ask<D: Disk, M: StateMachine<D>>(
     alloc: Global,
     state: &M,
     running: &Running,
     frame: Frame,
 ) -> Result<Asked, Error>
-    requires plain { IsPlain running.now }
     ensures asked { IfOk result (λ asked. (term moment : ℕ)
         → answer (record { durable = part_of (M.map state.now) term; running = running.now }) moment frame
         ≡ outcome_of (record { durable = part_of (M.map state.now) term; running = running.now }) moment asked) }
-    ensures room { IfOk result (λ asked. HasRoom (M.map state.now).mark.index asked) }
-    ensures rise { IfOk result (λ asked. asked_rise asked ≤ frame_rise frame) }
+    ensures room { IfOk result (HasRoom running.now.setting (M.map state.now).mark.index) }
+    ensures rise { IfOk result (λ asked. asked_rise asked ≤ ask_rise frame) }
     ensures refused { IfErr result (λ e. e ≡ OutOfMemory) }
 {
     match frame {
         Frame::Good(request) if is_built(&request) => ask_request::<D, M>(
             alloc, state, running, request,
         ),
-        Frame::Good(_) | Frame::Bad => Ok(Asked::Say(Reply::Refused(Refusal::NotBuilt))),
+        Frame::Good(_) => Ok(Asked::Say(Reply::Refused(Refusal::NotBuilt))),
+        Frame::Bad => Ok(Asked::Say(failed(ErrorCode::InvalidRequest))),
     }
 }

@@ -1,5 +1,5 @@
 //! The engine over stores as they were opened.
-ghost use Rattle.std.specs.Prelude.{◌≡◌, ◌==◌, ◌||◌, ◌^◌, ◌-◌, ◌+◌, IsTrue, [], Option, Some, None, OnOk, IfOk, IfErr, IsSome, IfNone, ◌<◌, ◌≤◌, true, false};
+ghost use Rattle.std.specs.Prelude.{◌≡◌, ◌==◌, ◌&&◌, ◌||◌, not, ◌^◌, ◌-◌, ◌+◌, IsTrue, [], Option, Some, None, OnOk, IfOk, IfErr, IsSome, IfNone, ◌<◌, ◌≤◌, true, false};
 ghost use Rattle.den_codec.specs.declared.error.Error.TheVariants.{OutOfMemory};
 ghost use Rattle.den_core.specs.Full.{IsFullBy, IsSlotTooShort};
 ghost use Rattle.den_core.specs.PayloadSizes.{chunk_sizes};
@@ -12,18 +12,20 @@ ghost use Rattle.den_model.specs.Kv.{Durable};
 ghost use Rattle.den_model.specs.Log.{above, floor, last_of};
 ghost use Rattle.den_model.specs.MapState.{map_applied_all};
 ghost use Rattle.den_model.specs.Sizes.{entries_size, store_rise};
-ghost use Rattle.den_map.specs.Leases.{asks_lease, has_expiry};
+ghost use Rattle.den_map.specs.Leases.{asks_lease, has_expiry, lacks_lease};
 ghost use Rattle.den_map.specs.Order.{out_of_order};
 ghost use Rattle.den_journal.specs.Causes.{IsRefusal};
 ghost use Rattle.den_core.specs.Opening.{agrees, opening_refusal, refusal_by, IsLeft, IsOpeningFailure};
-ghost use Rattle.den_core.specs.Parts.{IsPlain, AllRest};
+ghost use Rattle.den_core.specs.Cores.{running_under};
+ghost use Rattle.den_core.specs.Parts.{GoesWith, AllRest};
 ghost use Rattle.den_core.specs.Spared.{SparesFamily};
 ghost use Rattle.den_state.specs.Machine.{AtRest};
 
 use crate::applying::apply_at_rest;
-use crate::engine::current_term;
-use crate::{Engine, Stepper};
-use den_codec::{Entry, Error, Rows, Running};
+use crate::nodes::copy_nodes;
+use crate::terms::current_term;
+use crate::{Core, Engine, Stepper};
+use den_codec::{Entry, Error, RaftNodeConfig, Rows, Running, Setting};
 use den_disk::Disk;
 use den_map::asks_lease;
 use den_state::StateMachine;
@@ -44,11 +46,37 @@ fn run_behind(index: u64, entries: &[Entry]) -> bool
     true
 }
 
-/// Whether a key of the map has an expiry, or one of these entries sets one.
-fn needs_lease<D: Disk, M: StateMachine<D>>(state: &M, entries: &[Entry]) -> bool
-    ensures { result ≡ (has_expiry (M.map state.now) || asks_lease entries.now) }
+/// Whether a key of the map has an expiry, or one of these entries sets one, and no lease is configured.
+fn lacks_lease<D: Disk, M: StateMachine<D>>(state: &M, entries: &[Entry]) -> bool
+    ensures { result ≡ (not (M.settings state.now).leased && (has_expiry (M.map state.now) || asks_lease entries.now)) }
 {
-    state.holds_expiry() || asks_lease(entries)
+    !state.has_lease() && (state.holds_expiry() || asks_lease(entries))
+}
+
+/// The run's part as a run begins under a core, with leases or without.
+fn running_under<D: Disk, K: Core<D>>(
+    alloc: Global,
+    config: &RaftNodeConfig,
+    core: &K,
+    leased: bool,
+) -> Result<Running, Error>
+    ensures running { IfOk result (λ running. running ≡ running_under config.now (K.view core.now) leased) }
+    ensures refused { IfErr result (λ e. e ≡ OutOfMemory) }
+{
+    let nodes = copy_nodes(alloc, config.cluster.initial_cluster.as_slice())?;
+    let setting = Setting {
+        role: core.role(),
+        hint: core.hint(alloc)?,
+        lease: leased,
+        interval: config.raft.lease.cleanup_interval_ms,
+        maximum: config.raft.watch.max_watcher_count,
+        buffer: config.raft.watch.watcher_buffer_size,
+    };
+    let leader = match core.leader() {
+        Some(leader) => Some(leader.leader_id),
+        None => None,
+    };
+    Ok(Running::at_entry(alloc, setting, nodes, leader))
 }
 
 /// The index of the last entry, or this one.
@@ -98,7 +126,7 @@ fn is_exhausted(term: u64, last_index: u64) -> bool
     term == u64::MAX || last_index == u64::MAX
 }
 
-/// What opening refuses where these entries of the log are above the map's mark, and a lease is needed or is not.
+/// What opening refuses where these entries of the log are above the map's mark, and a lease is lacking or is not.
 fn refusal<D: Disk, G: LogStore<D>, T: MetaStore<D>>(
     log: &G,
     meta: &T,
@@ -134,12 +162,13 @@ fn apply_all<D: Disk, M: StateMachine<D>>(
     requires ready { (M.shown state.old).ready }
     requires rests { IsTrue (D.kind disk.old).tells → AtRest (M.shown state.old) (M.map state.old) (D.content disk.old) }
     requires in_order { out_of_order (M.map state.old).mark.index entries.now ≡ None }
-    requires no_ttl { asks_lease entries.now ≡ false }
+    requires leased { lacks_lease (M.settings state.old).leased entries.now ≡ false }
     ensures disk { DiskGoesOn D.kind D.moment D.images D.faults disk.old disk.new }
     ensures own { IsTrue (D.kind disk.old).tells → M.holds.told → OldOrNew M.holds.of (D.images disk.new) (D.moment disk.old) (D.moment disk.new) (M.map state.old) (map_applied_all (M.map state.old) entries.now) }
     ensures others { IsTrue (D.kind disk.old).tells → SparesImages state_family (D.images disk.old) (D.images disk.new) (D.moment disk.old) (D.moment disk.new) }
     ensures spares { IsTrue (D.kind disk.old).tells → SparesOthers state_family (D.content disk.old) (D.content disk.new) }
     ensures applied { OnOk result (M.map state.new ≡ map_applied_all (M.map state.old) entries.now) }
+    ensures settings { M.settings state.new ≡ M.settings state.old }
     ensures ready { OnOk result (M.shown state.new).ready }
     ensures rests { OnOk result (IsTrue (D.kind disk.old).tells → AtRest (M.shown state.new) (M.map state.new) (D.content disk.new)) }
     ensures weight { OnOk result ((M.shown state.new).weight ≤ (M.shown state.old).weight + store_rise (entries_size entries.now)) }
@@ -156,94 +185,99 @@ fn apply_all<D: Disk, M: StateMachine<D>>(
 }
 
 /// Brings stores together, the log's entries above the map's mark being these. Applying them moves nothing that the files
-/// stand for.
-fn catch_up<D: Disk, G: LogStore<D>, T: MetaStore<D>, M: StateMachine<D>>(
+/// stand for. The state machine runs then.
+fn catch_up<D: Disk, G: LogStore<D>, T: MetaStore<D>, M: StateMachine<D>, K: Core<D>>(
     alloc: Global,
     disk: &mut D,
     log: G,
     meta: T,
     state: M,
+    core: K,
     running: Running,
     most: u64,
     entries: &[Entry],
-) -> Result<Engine<G, T, M>, Error>
+) -> Result<Engine<G, T, M, K>, Error>
     requires log_ready { (G.shown log).ready }
     requires meta_ready { (T.shown meta).ready }
     requires state_ready { (M.shown state).ready }
     requires rests { IsTrue (D.kind disk.old).tells → AllRest ((G.shown log).rests (D.content disk.old)) ((T.shown meta).rests (D.content disk.old)) (AtRest (M.shown state) (M.map state) (D.content disk.old)) }
-    requires plain { IsPlain running }
+    requires goes_with { GoesWith (K.view core).role (M.settings state).leased running }
     requires left { IsLeft (G.shown log).value (M.map state) entries.now }
-    requires no_ttl { asks_lease entries.now ≡ false }
+    requires leased { lacks_lease (M.settings state).leased entries.now ≡ false }
     ensures disk { DiskGoesOn D.kind D.moment D.images D.faults disk.old disk.new }
     ensures snapshot { IsTrue (D.kind disk.old).tells → SparesFamily snapshot_family D.content D.moment D.images disk.old disk.new }
-    ensures survives { (kept : Durable) → IsTrue (D.kind disk.old).tells → ⟦<Engine<G, T, M> as Stepper<D>>⟧.says.told → durable (G.shown log).value (T.shown meta).value (M.map state) ≡ Some kept
-        → Survives ⟦<Engine<G, T, M> as Stepper<D>>⟧.says.holds (D.images disk.new) (D.moment disk.old) (D.moment disk.new) []
+    ensures survives { (kept : Durable) → IsTrue (D.kind disk.old).tells → ⟦<Engine<G, T, M, K> as Stepper<D>>⟧.says.told → durable (G.shown log).value (T.shown meta).value (M.map state) ≡ Some kept
+        → Survives ⟦<Engine<G, T, M, K> as Stepper<D>>⟧.says.holds (D.images disk.new) (D.moment disk.old) (D.moment disk.new) []
         (record { durable = kept; running = running }) [] }
-    ensures opened { IfOk result (λ engine. durable (G.shown log).value (T.shown meta).value (M.map state) ≡ Some (⟦<Engine<G, T, M> as Stepper<D>>⟧.seen engine).kv.durable) }
-    ensures running { IfOk result (λ engine. (⟦<Engine<G, T, M> as Stepper<D>>⟧.seen engine).kv.running ≡ running) }
-    ensures log { IfOk result (λ engine. (⟦<Engine<G, T, M> as Stepper<D>>⟧.seen engine).log ≡ (G.shown log).value) }
-    ensures most { IfOk result (λ engine. (⟦<Engine<G, T, M> as Stepper<D>>⟧.seen engine).most ≡ most) }
-    ensures ready { IfOk result (λ engine. (⟦<Engine<G, T, M> as Stepper<D>>⟧.seen engine).ready) }
-    ensures rests { IfOk result (λ engine. IsTrue (D.kind disk.old).tells → (⟦<Engine<G, T, M> as Stepper<D>>⟧.seen engine).rests (D.content disk.new)) }
-    ensures weight { IfOk result (λ engine. (⟦<Engine<G, T, M> as Stepper<D>>⟧.seen engine).weight ≤ (G.shown log).weight + (T.shown meta).weight + (M.shown state).weight + store_rise (entries_size entries.now)) }
+    ensures opened { IfOk result (λ engine. durable (G.shown log).value (T.shown meta).value (M.map state) ≡ Some (⟦<Engine<G, T, M, K> as Stepper<D>>⟧.seen engine).kv.durable) }
+    ensures started { IfOk result (λ engine. (M.settings engine.state).running ≡ true) }
+    ensures running { IfOk result (λ engine. (⟦<Engine<G, T, M, K> as Stepper<D>>⟧.seen engine).kv.running ≡ running) }
+    ensures log { IfOk result (λ engine. (⟦<Engine<G, T, M, K> as Stepper<D>>⟧.seen engine).log ≡ (G.shown log).value) }
+    ensures most { IfOk result (λ engine. (⟦<Engine<G, T, M, K> as Stepper<D>>⟧.seen engine).most ≡ most) }
+    ensures ready { IfOk result (λ engine. (⟦<Engine<G, T, M, K> as Stepper<D>>⟧.seen engine).ready) }
+    ensures rests { IfOk result (λ engine. IsTrue (D.kind disk.old).tells → (⟦<Engine<G, T, M, K> as Stepper<D>>⟧.seen engine).rests (D.content disk.new)) }
+    ensures weight { IfOk result (λ engine. (⟦<Engine<G, T, M, K> as Stepper<D>>⟧.seen engine).weight ≤ (G.shown log).weight + (T.shown meta).weight + (M.shown state).weight + store_rise (entries_size entries.now)) }
     ensures refused { IfErr result (λ e. IsRefusal (Rose (D.faults disk.old) (D.faults disk.new)) (D.kind disk.old).limit e) }
-    ensures full { IfErr result (IsFullBy (IsTrue (D.kind disk.old).tells × ⟦<Engine<G, T, M> as Stepper<D>>⟧.says.told)
+    ensures full { IfErr result (IsFullBy (IsTrue (D.kind disk.old).tells × ⟦<Engine<G, T, M, K> as Stepper<D>>⟧.says.told)
         (λ needed. IsSlotTooShort (chunk_sizes (M.map state) entries.now) ((G.shown log).weight + (T.shown meta).weight + (M.shown state).weight + store_rise (entries_size entries.now)) needed (D.content disk.new).reading)
         (D.kind disk.old).limit ((G.shown log).weight + (T.shown meta).weight + (M.shown state).weight + store_rise (entries_size entries.now))) }
 {
     let mut state = state;
+    state.start();
     apply_all(&mut state, disk, entries)?;
-    Ok(Engine::new::<D>(alloc, log, meta, state, running, most))
+    Ok(Engine::new::<D>(alloc, log, meta, state, core, running, most))
 }
 
 /// Brings stores together as they were opened: the log's entries above the map's mark are applied, which moves nothing
-/// that the files stand for. Where log and map disagree, where a key has an expiry or an entry to apply a time to live,
-/// and where no term or index is left, it refuses, with nothing written. Behind a step the log may hold so many entries at
-/// most.
-pub fn recover<D: Disk, G: LogStore<D>, T: MetaStore<D>, M: StateMachine<D>>(
+/// that the files stand for. A lease is configured where the state machine has one. Where log and map disagree; where none
+/// is configured and a key has an expiry, or an entry to apply a time to live; and where no term or index is left, it
+/// refuses, in this order, with nothing written. The state machine runs then.
+pub fn recover<D: Disk, G: LogStore<D>, T: MetaStore<D>, M: StateMachine<D>, K: Core<D>>(
     alloc: Global,
     disk: &mut D,
     log: G,
     meta: T,
     state: M,
-    running: Running,
-    most: u64,
-) -> Result<Engine<G, T, M>, Error>
+    core: K,
+    config: &RaftNodeConfig,
+) -> Result<Engine<G, T, M, K>, Error>
     requires log_ready { (G.shown log).ready }
     requires meta_ready { (T.shown meta).ready }
     requires state_ready { (M.shown state).ready }
     requires rests { IsTrue (D.kind disk.old).tells → AllRest ((G.shown log).rests (D.content disk.old)) ((T.shown meta).rests (D.content disk.old)) (AtRest (M.shown state) (M.map state) (D.content disk.old)) }
-    requires plain { IsPlain running }
     ensures disk { DiskGoesOn D.kind D.moment D.images D.faults disk.old disk.new }
     ensures snapshot { IsTrue (D.kind disk.old).tells → SparesFamily snapshot_family D.content D.moment D.images disk.old disk.new }
-    ensures survives { (kept : Durable) → IsTrue (D.kind disk.old).tells → ⟦<Engine<G, T, M> as Stepper<D>>⟧.says.told → durable (G.shown log).value (T.shown meta).value (M.map state) ≡ Some kept
-        → Survives ⟦<Engine<G, T, M> as Stepper<D>>⟧.says.holds (D.images disk.new) (D.moment disk.old) (D.moment disk.new) []
-        (record { durable = kept; running = running }) [] }
-    ensures opened { IfOk result (λ engine. durable (G.shown log).value (T.shown meta).value (M.map state) ≡ Some (⟦<Engine<G, T, M> as Stepper<D>>⟧.seen engine).kv.durable) }
-    ensures running { IfOk result (λ engine. (⟦<Engine<G, T, M> as Stepper<D>>⟧.seen engine).kv.running ≡ running) }
-    ensures log { IfOk result (λ engine. (⟦<Engine<G, T, M> as Stepper<D>>⟧.seen engine).log ≡ (G.shown log).value) }
-    ensures most { IfOk result (λ engine. (⟦<Engine<G, T, M> as Stepper<D>>⟧.seen engine).most ≡ most) }
-    ensures ready { IfOk result (λ engine. (⟦<Engine<G, T, M> as Stepper<D>>⟧.seen engine).ready) }
-    ensures rests { IfOk result (λ engine. IsTrue (D.kind disk.old).tells → (⟦<Engine<G, T, M> as Stepper<D>>⟧.seen engine).rests (D.content disk.new)) }
-    ensures term { IfOk result (λ engine. (⟦<Engine<G, T, M> as Stepper<D>>⟧.seen engine).kv.durable.term < 2 ^ 64 - 1) }
-    ensures index { IfOk result (λ engine. (⟦<Engine<G, T, M> as Stepper<D>>⟧.seen engine).kv.durable.last_index < 2 ^ 64 - 1) }
-    ensures weight { IfOk result (λ engine. (⟦<Engine<G, T, M> as Stepper<D>>⟧.seen engine).weight
+    ensures survives { (kept : Durable) → IsTrue (D.kind disk.old).tells → ⟦<Engine<G, T, M, K> as Stepper<D>>⟧.says.told → durable (G.shown log).value (T.shown meta).value (M.map state) ≡ Some kept
+        → Survives ⟦<Engine<G, T, M, K> as Stepper<D>>⟧.says.holds (D.images disk.new) (D.moment disk.old) (D.moment disk.new) []
+        (record { durable = kept; running = running_under config.now (K.view core) (M.settings state).leased }) [] }
+    ensures opened { IfOk result (λ engine. durable (G.shown log).value (T.shown meta).value (M.map state) ≡ Some (⟦<Engine<G, T, M, K> as Stepper<D>>⟧.seen engine).kv.durable) }
+    ensures started { IfOk result (λ engine. (M.settings engine.state).running ≡ true) }
+    ensures running { IfOk result (λ engine. (⟦<Engine<G, T, M, K> as Stepper<D>>⟧.seen engine).kv.running ≡ running_under config.now (K.view core) (M.settings state).leased) }
+    ensures log { IfOk result (λ engine. (⟦<Engine<G, T, M, K> as Stepper<D>>⟧.seen engine).log ≡ (G.shown log).value) }
+    ensures most { IfOk result (λ engine. (⟦<Engine<G, T, M, K> as Stepper<D>>⟧.seen engine).most ≡ config.now.raft.max_log_entries) }
+    ensures ready { IfOk result (λ engine. (⟦<Engine<G, T, M, K> as Stepper<D>>⟧.seen engine).ready) }
+    ensures rests { IfOk result (λ engine. IsTrue (D.kind disk.old).tells → (⟦<Engine<G, T, M, K> as Stepper<D>>⟧.seen engine).rests (D.content disk.new)) }
+    ensures term { IfOk result (λ engine. (⟦<Engine<G, T, M, K> as Stepper<D>>⟧.seen engine).kv.durable.term < 2 ^ 64 - 1) }
+    ensures index { IfOk result (λ engine. (⟦<Engine<G, T, M, K> as Stepper<D>>⟧.seen engine).kv.durable.last_index < 2 ^ 64 - 1) }
+    ensures weight { IfOk result (λ engine. (⟦<Engine<G, T, M, K> as Stepper<D>>⟧.seen engine).weight
         ≤ (G.shown log).weight + (T.shown meta).weight + (M.shown state).weight + store_rise (entries_size (above (M.map state).mark.index (G.shown log).value.entries))) }
-    ensures unrefused { OnOk result (opening_refusal (G.place log) (G.shown log).value (T.shown meta).value (M.map state) ≡ None) }
+    ensures unrefused { OnOk result (opening_refusal (M.settings state).leased (G.place log) (G.shown log).value (T.shown meta).value (M.map state) ≡ None) }
     ensures refused { IfErr result (λ e. IsOpeningFailure (Rose (D.faults disk.old) (D.faults disk.new)) (D.kind disk.old).limit
-        (opening_refusal (G.place log) (G.shown log).value (T.shown meta).value (M.map state)) e) }
-    ensures full { IfErr result (IsFullBy (IsTrue (D.kind disk.old).tells × ⟦<Engine<G, T, M> as Stepper<D>>⟧.says.told)
+        (opening_refusal (M.settings state).leased (G.place log) (G.shown log).value (T.shown meta).value (M.map state)) e) }
+    ensures full { IfErr result (IsFullBy (IsTrue (D.kind disk.old).tells × ⟦<Engine<G, T, M, K> as Stepper<D>>⟧.says.told)
         (λ needed. IsSlotTooShort (chunk_sizes (M.map state) (above (M.map state).mark.index (G.shown log).value.entries))
         ((G.shown log).weight + (T.shown meta).weight + (M.shown state).weight + store_rise (entries_size (above (M.map state).mark.index (G.shown log).value.entries))) needed (D.content disk.new).reading)
         (D.kind disk.old).limit ((G.shown log).weight + (T.shown meta).weight + (M.shown state).weight + store_rise (entries_size (above (M.map state).mark.index (G.shown log).value.entries)))) }
-    ensures untouched { IsSome (opening_refusal (G.place log) (G.shown log).value (T.shown meta).value (M.map state)) → disk.new ≡ disk.old }
+    ensures untouched { IsSome (opening_refusal (M.settings state).leased (G.place log) (G.shown log).value (T.shown meta).value (M.map state)) → disk.new ≡ disk.old }
 {
     let mark = state.last_applied().index;
     let found = entries_above::<D, G>(&log, mark)?;
     let entries = found.as_slice();
-    let lease = needs_lease::<D, M>(&state, entries);
-    match refusal::<D, G, T>(&log, &meta, mark, entries, lease) {
-        Some(refused) => Err(refused),
-        None => catch_up(alloc, disk, log, meta, state, running, most, entries),
+    let lacking = lacks_lease::<D, M>(&state, entries);
+    if let Some(refused) = refusal::<D, G, T>(&log, &meta, mark, entries, lacking) {
+        return Err(refused);
     }
+    let running = running_under::<D, K>(alloc, config, &core, state.has_lease())?;
+    let most = config.raft.max_log_entries;
+    catch_up(alloc, disk, log, meta, state, core, running, most, entries)
 }

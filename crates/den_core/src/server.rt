@@ -1,9 +1,10 @@
 //! The loop that serves frames: each is a step, and what the step answers is sent behind it.
-ghost use Rattle.std.specs.Prelude.{◌≡◌, ◌<◌, ◌≤◌, ◌^◌, ◌+◌, ◌-◌, ◌++◌, ℕ, List, drop, IsTrue, OnOk, IfErr, length};
+ghost use Rattle.std.specs.Prelude.{◌≡◌, ◌<◌, ◌≤◌, ◌^◌, ◌+◌, ◌-◌, ◌++◌, ℕ, List, drop, IsTrue, OnOk, IfErr, length, true};
 ghost use Rattle.den_disk.specs.Goes.{Rose, IsPrefix, stamped, added, LinkGoesOn, ClockGoesOn};
 ghost use Rattle.den_model.specs.Crash.{Survives, IsWhole, IsDone, IsAnswered, IsServed, Tells, bytes_of};
 ghost use Rattle.den_model.specs.Frames.{framed, frames};
-ghost use Rattle.den_model.specs.Plan.{turn, turns, plan};
+ghost use Rattle.den_model.specs.Plan.{output, turn, turns, plan};
+ghost use Rattle.den_model.specs.Step.{leads};
 ghost use Rattle.den_core.specs.Answers.{frames_of};
 ghost use Rattle.den_core.specs.Early.{EarlyIsRefused};
 ghost use Rattle.den_core.specs.Full.{IsBegun, IsReached};
@@ -97,6 +98,8 @@ fn serve_frame<D: Disk, L: Link, S: Stepper<D>>(
         (S.seen stepper.old).kv (turn (S.seen stepper.old).kv frame time) }
     ensures whole { OnOk result (IsTrue (L.tells link.old)
         → IsWhole (added (L.sent link.old) (L.sent link.new)) (S.seen stepper.old).kv (S.seen stepper.old).log (turn (S.seen stepper.old).kv frame time) (S.seen stepper.new).kv (S.seen stepper.new).log) }
+    ensures prefix { IsTrue (L.tells link.old)
+        → IsPrefix (bytes_of (added (L.sent link.old) (L.sent link.new))) (output (S.seen stepper.old).kv (turn (S.seen stepper.old).kv frame time)) }
     ensures weight { OnOk result ((S.seen stepper.new).weight ≤ (S.seen stepper.old).weight + frame_rise frame) }
     ensures serves { Serves D.Disk (S.seen stepper.old) (S.seen stepper.new) disk.old disk.new S.says (Rose (L.faults link.old) (L.faults link.new))
         (λ kv log next. IsBegun (S.seen stepper.old).kv (S.seen stepper.old).log (turn (S.seen stepper.old).kv frame time) kv log next
@@ -127,6 +130,11 @@ pub fn serve<D: Disk, L: Link, C: Clock, S: Stepper<D>>(
     ensures survives { Tells (D.kind disk.old).tells (L.tells link.old) (C.tells clock.new) → S.says.told
         → Survives S.says.holds (D.images disk.new) (D.moment disk.old) (D.moment disk.new) (added (L.sent link.old) (L.sent link.new))
         (S.seen stepper.old).kv (turns (S.seen stepper.old).kv (frames limit (L.left link.old)) (added (C.readings clock.old) (C.readings clock.new))) }
+
+    // At every exit what was sent is a front of what the turns answer, whatever is told of the disk and its files.
+    ensures prefix { IsTrue (L.tells link.old) → IsTrue (C.tells clock.new)
+        → IsPrefix (bytes_of (added (L.sent link.old) (L.sent link.new)))
+        (output (S.seen stepper.old).kv (turns (S.seen stepper.old).kv (frames limit (L.left link.old)) (added (C.readings clock.old) (C.readings clock.new)))) }
 
     // At Ok all turns were made, exactly what they answer was sent, and their entries are in the log.
     ensures done { OnOk result (Tells (D.kind disk.old).tells (L.tells link.old) (C.tells clock.new)
@@ -177,18 +185,23 @@ pub fn run_from<D: Disk, L: Link, C: Clock, S: Stepper<D>>(
         IsServed S.says.holds S.says.logs (D.images disk.new) (D.moment disk.new) (L.left link.new) (length readings) (length (frames limit (L.left link.old)))
         (added (L.sent link.old) (L.sent link.new)) (S.seen stepper.old).kv (S.seen stepper.old).log (plan (S.seen stepper.old).kv (frames limit (L.left link.old)) readings)) }
 
-    // The log that the files give then is short.
-    ensures short { OnOk result (IsTrue (D.kind disk.old).tells → S.says.told
+    // The log that the files give then is short, where it leads.
+    ensures short { OnOk result (leads (S.seen stepper.old).kv ≡ true → IsTrue (D.kind disk.old).tells → S.says.told
         → GivesShortLog S.says.logs (D.images disk.new) (D.moment disk.new) (S.seen stepper.old).most) }
 
-    // Few records follow the last checkpoint of the state machine.
-    ensures state_short { OnOk result (S.seen stepper.new).short }
+    // Few records follow the last checkpoint of the state machine then.
+    ensures state_short { OnOk result (leads (S.seen stepper.old).kv ≡ true → (S.seen stepper.new).short) }
 
     // At every exit, and after a crash at any moment, inside a call too, the disk stands for the state after a prefix
     // of the plan that holds each step of which a byte was sent.
     ensures any_moment { Tells (D.kind disk.old).tells (L.tells link.old) (C.tells clock.new) → S.says.told
         → Survives S.says.holds (D.images disk.new) (D.moment disk.old) (D.moment disk.new) (added (L.sent link.old) (L.sent link.new))
         (S.seen stepper.old).kv (plan (S.seen stepper.old).kv (frames limit (L.left link.old)) (added (C.readings clock.old) (C.readings clock.new))) }
+
+    // At every exit what was sent is a front of the plan's output, whatever is told of the disk and its files.
+    ensures prefix { IsTrue (L.tells link.old) → IsTrue (C.tells clock.new)
+        → IsPrefix (bytes_of (added (L.sent link.old) (L.sent link.new)))
+        (output (S.seen stepper.old).kv (plan (S.seen stepper.old).kv (frames limit (L.left link.old)) (added (C.readings clock.old) (C.readings clock.new)))) }
     ensures link { LinkGoesOn L.tells L.sent L.budget L.taken L.faults link.old link.new }
     ensures clock { ClockGoesOn C.tells C.readings clock.old clock.new }
     ensures counted { IsTrue (L.tells link.old) → L.taken link.new + length (L.left link.new) ≡ L.taken link.old + length (L.left link.old) }

@@ -1,9 +1,10 @@
 //! What the loop over frames sees of an engine.
-ghost use Rattle.std.specs.Prelude.{◌≡◌, ◌↔◌, ◌<◌, ◌≤◌, ◌^◌, ◌+◌, ◌-◌, IsTrue, OnOk, IfOk};
+ghost use Rattle.std.specs.Prelude.{◌≡◌, ◌↔◌, ◌⊎◌, ◌<◌, ◌≤◌, ◌^◌, ◌+◌, ◌-◌, IsTrue, OnOk, IfOk, true};
 ghost use Rattle.den_model.specs.Plan.{logged, output, opening, turn};
+ghost use Rattle.den_model.specs.Step.{leads};
 ghost use Rattle.den_core.specs.Answers.{frames_of};
 ghost use Rattle.den_core.specs.Making.{Agrees, CanGoOn, IsCallTooShort, LogIsShort, Makes, Says, Seen};
-ghost use Rattle.den_core.specs.Refusals.{HasJoined};
+ghost use Rattle.den_core.specs.Refusals.{HasCleaned, HasJoined};
 ghost use Rattle.den_core.specs.Trimmed.{logged_after, mark_of};
 ghost use Rattle.den_core.specs.Weights.{frame_rise, opening_rise};
 
@@ -26,8 +27,8 @@ pub trait Stepper<D: Disk>: Drop {
     /// What it says of files.
     ghost says: { Says };
 
-    /// Makes the opening's steps. The log is short then: it is purged up to the mark only where its indices run over too many.
-    /// Where memory is wanting behind a write, the term is raised.
+    /// Makes the opening's steps. The log of one that leads is short then: it is purged up to the mark only where its indices
+    /// run over too many. What was short stays so. Where memory is wanting behind a write, the term is raised, or expired keys are gone.
     fn open_at(&mut self, disk: &mut D, time: u64) -> Result<(), Error>
         requires stands { CanGoOn D.Disk (seen self.old) disk.old }
         requires time { 1 ≤ time }
@@ -35,21 +36,23 @@ pub trait Stepper<D: Disk>: Drop {
         requires index { (seen self.old).kv.durable.last_index < 2 ^ 64 - 1 }
         ensures makes { Makes D.Disk (seen self.old) (seen self.new) disk.old disk.new says (opening (seen self.old).kv time) opening_rise
             (IsCallTooShort (seen self.old) (opening (seen self.old).kv time))
-            ((seen self.new).kv.durable.term ≡ (seen self.old).kv.durable.term + 1) result }
+            (((seen self.new).kv.durable.term ≡ (seen self.old).kv.durable.term + 1) ⊎ HasCleaned (seen self.old).kv (opening (seen self.old).kv time)) result }
         ensures log { OnOk result ((seen self.new).log
             ≡ logged_after (seen self.old).most (mark_of (seen self.new).kv.durable) (seen self.old).log (logged (seen self.old).kv (opening (seen self.old).kv time))) }
-        ensures short { OnOk result (LogIsShort (seen self.new)) }
-        ensures state_short { OnOk result (seen self.new).short };
+        ensures short { OnOk result (leads (seen self.old).kv ≡ true → LogIsShort (seen self.new)) }
+        ensures state_short { OnOk result (leads (seen self.old).kv ≡ true → (seen self.new).short) }
+        ensures state_kept { OnOk result ((seen self.old).short → (seen self.new).short) };
 
     /// Makes a frame's steps, and answers what is to be sent. A log that was short stays so: where the steps log an entry it
-    /// is purged up to the mark, only where its indices run over too many. Where memory is wanting behind a write, the
-    /// steps' entries are in the log.
+    /// is purged up to the mark, only where its indices run over too many. Where memory is wanting behind a write, expired
+    /// keys are gone, or the steps' entries are in the log.
     fn step(&mut self, disk: &mut D, frame: Frame, time: u64) -> Result<StepOut, Error>
         requires stands { CanGoOn D.Disk (seen self.old) disk.old }
         requires time { 1 ≤ time }
         ensures makes { Makes D.Disk (seen self.old) (seen self.new) disk.old disk.new says (turn (seen self.old).kv frame time) (frame_rise frame)
             (IsCallTooShort (seen self.old) (turn (seen self.old).kv frame time))
-            (HasJoined (seen self.old).log (logged (seen self.old).kv (turn (seen self.old).kv frame time)) (seen self.new).log) result }
+            (HasCleaned (seen self.old).kv (turn (seen self.old).kv frame time)
+            ⊎ HasJoined (seen self.old).log (logged (seen self.old).kv (turn (seen self.old).kv frame time)) (seen self.new).log) result }
         ensures log { OnOk result ((seen self.new).log
             ≡ logged_after (seen self.old).most (mark_of (seen self.new).kv.durable) (seen self.old).log (logged (seen self.old).kv (turn (seen self.old).kv frame time))) }
         ensures short { OnOk result (LogIsShort (seen self.old) → LogIsShort (seen self.new)) }

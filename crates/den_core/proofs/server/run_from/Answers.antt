@@ -4,7 +4,8 @@ use Rattle.den_disk.specs.Files.{Kind}
 use Rattle.den_model.specs.Crash.{Stands, Tells}
 use Rattle.den_model.specs.Frames.{frames}
 use Rattle.den_core.proofs.GoesOn.{disk_twice, on_ok_three}
-use Rattle.den_core.proofs.Beginning.{frames_reached, opening_reached, opens_only, runs, runs_answered, runs_whole}
+use Rattle.den_core.proofs.Fronts.{none_is_front, front_of_run}
+use Rattle.den_core.proofs.Beginning.{frames_reached, opening_reached, opening_short, opens_only, runs, runs_answered, runs_whole}
 use Rattle.den_core.proofs.Refusing.{not_done}
 use Rattle.den_core.proofs.Weighing.{heavier_all, heavier_out, short_step}
 use Rattle.den_core.specs.Refusals.{IsServeRefusal}
@@ -29,6 +30,15 @@ returns-clause-any_moment g c = λ told says.
     _ _ _ _ _ _ _ (opening.makes.goes_on.told told.disk_tells).later on.later on.past
     (c.now.ensures.told (c.serve.ensures.clock.told told.clock_tells)) (c.serve.ensures.clock.grows told.clock_tells) opening.makes.done.state
     (c.serve.ensures.survives here says)
+
+pub returns-in_err-open_at-clause-prefix : goal.returns-in_err-open_at-clause-prefix
+returns-in_err-open_at-clause-prefix g c = λ link_tells clock_tells. none_is_front (g.L.Link.sent c.args.link.now) _
+
+pub returns-clause-prefix : goal.returns-clause-prefix
+returns-clause-prefix g c = λ link_tells clock_tells.
+    front_of_run (g.S.Stepper.seen c.args.stepper.now).kv (frames c.args.limit (g.L.Link.left c.args.link.now)) _ _ c.max-time.ensures _ _ _ _ _
+    (c.now.ensures.told (c.serve.ensures.clock.told clock_tells)) (c.serve.ensures.clock.grows clock_tells) c.in_ok-open_at.ensures.makes.done.state
+    (c.serve.ensures.prefix link_tells clock_tells)
 
 pub returns-clause-answered : goal.returns-clause-answered
 returns-clause-answered g c = on_ok_weaker c.serve.result (λ done told.
@@ -56,7 +66,7 @@ returns-clause-served g c = on_ok_three c.serve.result (λ done ready rests told
     (λ files at. g.met.S.Stepper.agrees.rests_log says s (g.D.Disk.content disk) files ready (rests here.disk_tells) ((g.met.D.Disk.images_now disk files then).0 at))) c.serve.ensures.done c.serve.ensures.serves.ready c.serve.ensures.serves.rests
 
 pub returns-clause-short : goal.returns-clause-short
-returns-clause-short g c = on_ok_three c.serve.result (λ short ready rests told says.
+returns-clause-short g c = on_ok_three c.serve.result (λ short ready rests leading told says.
     let disk = c.serve.new.disk in
     let s = c.serve.new.stepper in
     let here : IsTrue (g.D.Disk.kind c.open_at.new.disk).tells = subst (λ (k : Kind). IsTrue k.tells) (sym c.open_at.ensures.makes.goes_on.same) told in
@@ -65,7 +75,7 @@ returns-clause-short g c = on_ok_three c.serve.result (λ short ready rests told
       each = λ files at. (
         (g.S.Stepper.seen s).log,
         g.met.S.Stepper.agrees.rests_log says s (g.D.Disk.content disk) files ready (rests here) ((g.met.D.Disk.images_now disk files then).0 at),
-        omega (arith, short c.in_ok-open_at.ensures.short, c.serve.ensures.serves.same_most, c.open_at.ensures.makes.same_most),
+        omega (arith, short (c.in_ok-open_at.ensures.short leading), c.serve.ensures.serves.same_most, c.open_at.ensures.makes.same_most),
       );
     }) c.serve.ensures.serves.short c.serve.ensures.serves.ready c.serve.ensures.serves.rests
 
@@ -77,8 +87,8 @@ returns-clause-serves g c =
       goes_on = disk_twice _ _ _ _ _ _ _ c.open_at.ensures.makes.goes_on serves.goes_on;
       snapshot = spares_twice _ _ _ _ _ _ _ _ _ c.open_at.ensures.makes.goes_on serves.goes_on c.open_at.ensures.makes.snapshot serves.snapshot;
       same_most = serves.same_most ∙ c.open_at.ensures.makes.same_most;
-      short = on_ok_weaker c.serve.result (λ short any. short c.in_ok-open_at.ensures.short) serves.short;
-      state_short = on_ok_weaker c.serve.result (λ short any. short c.in_ok-open_at.ensures.state_short) serves.state_short;
+      short = on_ok_weaker c.serve.result (λ short was. short (opening_short (g.S.Stepper.seen c.args.stepper.now).kv _ _ _ _ _ _ c.open_at.ensures.makes.same_most c.in_ok-open_at.ensures.short c.in_ok-open_at.ensures.log was)) serves.short;
+      state_short = on_ok_weaker c.serve.result (λ short was. short (c.in_ok-open_at.ensures.state_kept was)) serves.state_short;
       ready = serves.ready;
       rests = on_ok_weaker c.serve.result (λ rests told. rests (subst (λ (k : Kind). IsTrue k.tells) (sym c.open_at.ensures.makes.goes_on.same) told)) serves.rests;
       refused = refused;
@@ -115,4 +125,4 @@ returns-in_err-open_at-clause-serves g c =
     }
 
 pub returns-clause-state_short : goal.returns-clause-state_short
-returns-clause-state_short g c = on_ok_weaker c.serve.result (λ short. short c.in_ok-open_at.ensures.state_short) c.serve.ensures.serves.state_short
+returns-clause-state_short g c = on_ok_weaker c.serve.result (λ short leading. short (c.in_ok-open_at.ensures.state_short leading)) c.serve.ensures.serves.state_short

@@ -3,6 +3,7 @@ use Rattle.den_disk.specs.Files.{Kind}
 use Rattle.den_model.specs.Crash.{Tells}
 use Rattle.den_model.specs.Frames.{frames}
 use Rattle.den_core.proofs.FramesSoFar.{begins, begun_over, served_over, done_over, turn_reached}
+use Rattle.den_core.proofs.Fronts.{none_answered, all_is_front, begun_is_front, one_answered}
 use Rattle.den_core.proofs.GoesOn.{disk_same, disk_twice, link_same, link_twice, clock_same, clock_twice, clock_read, found_some, found_none}
 use Rattle.den_core.proofs.Refusing.{not_done}
 use Rattle.den_core.specs.Refusals.{IsServeRefusal}
@@ -31,6 +32,7 @@ frames-init g c = record {
       let s = c.args.stepper.now in
       begins g.S.Stepper.says.told g.S.Stepper.says.holds _ _ _ (g.C.Clock.readings c.args.clock.now) (g.L.Link.sent c.args.link.now) _ (g.S.Stepper.seen s).log (λ says. stands_now _ _ _ (g.D.Disk.content disk) _ (λ files. g.met.D.Disk.images_now disk files told.disk_tells)
       (λ files. g.met.S.Stepper.agrees.rests_hold says s (g.D.Disk.content disk) files c.requires.stands.ready (c.requires.stands.rests told.disk_tells)));
+  answered = λ link_tells clock_tells. none_answered _ (g.C.Clock.readings c.args.clock.now) (g.L.Link.sent c.args.link.now) _;
 }
 
 -- the input is at its end
@@ -40,7 +42,30 @@ returns-in_default-clause-done g c = λ told.
     let link_tells : IsTrue (g.L.Link.tells c.frames.link) = subst (λ b. IsTrue b) (sym inv.link.same) told.link_tells in
     done_over g.S.Stepper.says.told g.S.Stepper.says.holds _ _ _ _ _ _ _ _ _ _ _ _ _ _ _ (inv.so_far told) (found_none _ _ _ _ c.in_default.is (c.in_ok-found.ensures.found link_tells)) (c.next.ensures.sent link_tells)
 
+pub returns-in_default-clause-prefix : goal.returns-in_default-clause-prefix
+returns-in_default-clause-prefix g c = λ link_told clock_tells.
+    let inv = c.frames.invariant in
+    all_is_front _ _ _ _ _ _ _ _ (inv.answered link_told clock_tells) (c.next.ensures.sent (subst (λ b. IsTrue b) (sym inv.link.same) link_told))
+
+-- it could not be read
+pub returns-in_err-found-clause-prefix : goal.returns-in_err-found-clause-prefix
+returns-in_err-found-clause-prefix g c = λ link_told clock_tells.
+    let inv = c.frames.invariant in
+    all_is_front _ _ _ _ _ _ _ _ (inv.answered link_told clock_tells) (c.next.ensures.sent (subst (λ b. IsTrue b) (sym inv.link.same) link_told))
+
 -- a frame was begun
+pub returns-in_err-serve_frame-clause-prefix : goal.returns-in_err-serve_frame-clause-prefix
+returns-in_err-serve_frame-clause-prefix g c = λ link_told clock_tells.
+    let inv = c.frames.invariant in
+    let before : IsTrue (g.C.Clock.tells c.frames.clock) = c.now.ensures.tells clock_tells in
+    let link_tells : IsTrue (g.L.Link.tells c.frames.link) = subst (λ b. IsTrue b) (sym inv.link.same) link_told in
+    let then_tells : IsTrue (g.L.Link.tells c.next.new.link) = subst (λ b. IsTrue b) (sym c.next.ensures.on.same) link_tells in
+    begun_is_front _ _ _ _ _ _ _ _ _ _ _ _ _ _ _
+    (inv.clock.grows before) (c.now.ensures.told clock_tells) c.max-time.ensures
+    (inv.link.grows link_told) (c.next.ensures.sent link_tells) (c.serve_frame.ensures.link.grows then_tells)
+    (inv.answered link_told before) (found_some _ _ _ _ _ _ inv.limit c.in-Some.is (c.in_ok-found.ensures.found link_tells))
+    (c.serve_frame.ensures.prefix then_tells)
+
 pub returns-in_err-serve_frame-clause-survives : goal.returns-in_err-serve_frame-clause-survives
 returns-in_err-serve_frame-clause-survives g c = λ told.
     let inv = c.frames.invariant in
@@ -124,4 +149,15 @@ frames-preserved g c =
           ∙ ap (λ left. c.in-Some.frame ∷ frames c.args.limit left) (sym (c.serve_frame.ensures.left then_tells)))
           (λ says. c.serve_frame.ensures.survives disk_tells then_tells says)
           _ _ (c.in_ok-serve_frame.ensures.whole then_tells);
+      answered = λ link_told clock_tells.
+          let before : IsTrue (g.C.Clock.tells c.frames.clock) = c.now.ensures.tells clock_tells in
+          let link_tells : IsTrue (g.L.Link.tells c.frames.link) = subst (λ b. IsTrue b) (sym inv.link.same) link_told in
+          let then_tells : IsTrue (g.L.Link.tells c.next.new.link) = subst (λ b. IsTrue b) (sym c.next.ensures.on.same) link_tells in
+          one_answered _ _ _ _ _ _ _ _ _ _ _ _ _ _ _
+          (inv.clock.grows before) (c.now.ensures.told clock_tells) c.max-time.ensures
+          (inv.link.grows link_told) (c.next.ensures.sent link_tells) (c.serve_frame.ensures.link.grows then_tells)
+          (inv.answered link_told before)
+          (found_some _ _ _ _ _ _ inv.limit c.in-Some.is (c.in_ok-found.ensures.found link_tells)
+          ∙ ap (λ left. c.in-Some.frame ∷ frames c.args.limit left) (sym (c.serve_frame.ensures.left then_tells)))
+          _ (c.in_ok-serve_frame.ensures.whole then_tells).state (c.in_ok-serve_frame.ensures.whole then_tells).bytes;
     }

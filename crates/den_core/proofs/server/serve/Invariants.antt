@@ -7,6 +7,7 @@ use Rattle.den_core.specs.Making.{LogIsShort}
 use Rattle.den_core.specs.Spared.{SparesFamily}
 use Rattle.den_core.specs.Weights.{served_weight}
 use Rattle.den_core.proofs.FramesSoFar.{SoFar}
+use Rattle.den_core.proofs.Fronts.{AnsweredSoFar}
 use Rattle.den_core.proofs.server.serve.Given as goal
 
 abbrev pub invariant-frames : goal.invariant-frames
@@ -32,6 +33,9 @@ invariant-frames g l =
           → SoFar S.says.told S.says.holds (D.images l.disk) (D.moment l.fn.disk) (D.moment l.disk)
           (frames l.limit (L.left l.fn.link)) (frames l.limit (L.left l.link))
           (added (C.readings l.fn.clock) (C.readings l.clock)) (added (L.sent l.fn.link) (L.sent l.link)) (S.seen l.fn.stepper).kv (S.seen l.stepper).kv (S.seen l.fn.stepper).log (S.seen l.stepper).log;
+      answered : IsTrue (L.tells l.fn.link) → IsTrue (C.tells l.clock)
+          → AnsweredSoFar (frames l.limit (L.left l.fn.link)) (frames l.limit (L.left l.link))
+          (added (C.readings l.fn.clock) (C.readings l.clock)) (added (L.sent l.fn.link) (L.sent l.link)) (S.seen l.fn.stepper).kv (S.seen l.stepper).kv;
     }
 
 abbrev pub decreases-frames : goal.decreases-frames

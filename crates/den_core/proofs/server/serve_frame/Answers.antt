@@ -3,6 +3,7 @@ use Rattle.den_disk.specs.Files.{Kind}
 use Rattle.den_model.specs.Crash.{Stands, bytes_of}
 use Rattle.den_disk.specs.Goes.{Rose}
 use Rattle.den_core.specs.Refusals.{IsServeRefusal}
+use Rattle.den_core.proofs.Fronts.{none_is_front, sent_is_front}
 use Rattle.den_core.proofs.Lists.{added_is, bytes_of-stamped}
 use Rattle.den_core.proofs.Refusing.{not_done}
 use Rattle.den_core.proofs.Stretch.{then_sent_over, stands_now}
@@ -38,7 +39,17 @@ returns-clause-whole g c = λ link_tells. record {
   bytes = ap bytes_of (added_is _ _ _ (c.in_ok-send_all.ensures.all link_tells)) ∙ bytes_of-stamped _ _ ∙ c.in_ok-out.ensures.answer;
 }
 
+-- a front of it was sent
+pub returns-in_err-send_all-clause-prefix : goal.returns-in_err-send_all-clause-prefix
+returns-in_err-send_all-clause-prefix g c = λ link_tells. sent_is_front _ _ _ _ _ c.in_ok-out.ensures.answer (c.send_all.ensures.front link_tells)
+
+pub returns-clause-prefix : goal.returns-clause-prefix
+returns-clause-prefix g c = λ link_tells. sent_is_front _ _ _ _ _ c.in_ok-out.ensures.answer (c.send_all.ensures.front link_tells)
+
 -- the step was refused
+pub returns-in_err-out-clause-prefix : goal.returns-in_err-out-clause-prefix
+returns-in_err-out-clause-prefix g c = λ link_tells. none_is_front (g.L.Link.sent c.args.link.now) _
+
 pub returns-in_err-out-clause-serves : goal.returns-in_err-out-clause-serves
 returns-in_err-out-clause-serves g c =
     let makes = c.in_err-out.ensures.makes in

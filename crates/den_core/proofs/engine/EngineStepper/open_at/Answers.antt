@@ -1,118 +1,39 @@
-use Rattle.std.proofs.Common.{◌+◌, IsTrue, inl, refl, ap, sym, subst, ◌∙◌, arith}
-use Rattle.den_model.specs.Image.{term_of}
-use Rattle.den_core.specs.Parts.{kv_of}
-use Rattle.den_core.proofs.GoesOn.{disk_twice}
-use Rattle.den_core.proofs.Spared.{spares_twice}
-use Rattle.den_core.specs.Full.{IsSlotTooShort}
-use Rattle.den_core.specs.PayloadSizes.{step_sizes}
-use Rattle.den_core.specs.Weights.{opening_rise}
-use Rattle.den_core.proofs.Weighing.{heavier, same_short}
+use Rattle.std.proofs.Common.{◌≡◌, ⊎_elim, true, false, [], ◌∷◌, inl, inr, refl, sym, ◌∙◌, subst, arith}
+use Rattle.den_model.specs.Plan.{first_cleanup}
 use Rattle.den_model.specs.Step.{Noop, Raise}
-use Rattle.den_disk.specs.Files.{Kind}
-use Rattle.den_core.proofs.Steps.{noop_begun, opening_begun, opening_log, opening_made, opening_state, opening_trimmed, raise_begun, raised_is}
-use Rattle.den_core.proofs.Refusing.{at_exit, fails_behind, left_weaker, not_done, refusal_behind}
+use Rattle.den_core.specs.Parts.{kv_of}
+use Rattle.den_core.specs.Refusals.{HasCleaned}
+use Rattle.den_core.proofs.Turns.{fails_when, opening_is, opening_leads, opening_rest, opening_term}
+use Rattle.den_core.proofs.Twice.{both_twice, more_room, refused_first, same_steps}
 use Rattle.den_core.proofs.engine.EngineStepper.open_at.Goals as goal
 
-pub returns-in_err-raise-clause-makes : goal.returns-in_err-raise-clause-makes
-returns-in_err-raise-clause-makes g c =
-    let makes = c.in_err-raise.ensures.makes in
-    record {
-      goes_on = makes.goes_on;
-      same_most = makes.same_most;
-      snapshot = makes.snapshot;
-      survives = λ told held.
-          let self = c.args.self.now in
-          opening_begun _ _ _ _ (kv_of (g.T.MetaStore.shown self.meta).value (g.M.StateMachine.map self.state) self.running) c.args.time c.requires.stands.ready.1.plain.no_lease (c.raise.ensures.makes.moves told held);
-      done = not_done c.from_residual.result c.in_err-raise.field-0.0 _ c.from_residual.ensures.1;
-      refused = at_exit c.from_residual.result c.in_err-raise.field-0.0 _ c.from_residual.ensures.1 (record {
-        cause = makes.refused.cause;
-        full = heavier _ _ _ _ _ _ _ _ c.in_err-raise.field-0.0 (λ t. t)
-            (λ needed t short.
-            let self = c.args.self.now in
-            record {
-              kv = kv_of (g.T.MetaStore.shown self.meta).value (g.M.StateMachine.map self.state) self.running;
-              log = (g.G.LogStore.shown self.log).value;
-              next = Raise;
-              is_begun = raise_begun _ _ c.args.time c.requires.stands.ready.1.plain.no_lease;
-              short = same_short _ _ _ needed _ (omega arith) short;
-            })
-            refl (omega arith) makes.refused.full;
-        left = left_weaker c.in_err-raise.field-0.0 _ _ _ _ (λ joined. absurd (omega (arith, joined.some))) makes.refused.left;
-      });
-    }
+-- of one that does not lead
+pub returns-then-not-leads-clause-makes : goal.returns-then-not-leads-clause-makes
+returns-then-not-leads-clause-makes g c =
+    let old = c.args.self.now in
+    let kv = kv_of (g.T.MetaStore.shown old.meta).value (g.M.StateMachine.map old.state) old.running in
+    let rest = opening_rest kv c.args.time (sym c.leads.ensures ∙ c.if-not-leads.true) in
+    same_steps _ _ _ _ _ _ (first_cleanup kv c.args.time) _ _ _ _ (sym rest)
+    (more_room _ _ _ _ _ _ (first_cleanup kv c.args.time) _ _ _ _ _ (omega arith)
+    (⊎_elim (λ cleaned. inr (subst (HasCleaned kv) (sym rest) cleaned)) (λ never. let bad : false ≡ true = never in cc)) c.clean_first.ensures.makes)
 
--- the term is raised and lacks its first entry
-pub returns-in_err-commit_and_trim-clause-makes : goal.returns-in_err-commit_and_trim-clause-makes
-returns-in_err-commit_and_trim-clause-makes g c =
-    let raised = c.in_ok-raise.ensures in
-    let makes = c.in_err-commit_and_trim.ensures.makes in
-    record {
-      goes_on = disk_twice _ _ _ _ _ _ _ raised.makes.goes_on makes.goes_on;
-      same_most = makes.same_most ∙ raised.makes.same_most;
-      snapshot = spares_twice _ _ _ _ _ _ _ _ _ raised.makes.goes_on makes.goes_on raised.makes.snapshot makes.snapshot;
-      survives = λ told held.
-          let then : IsTrue (g.D.Disk.kind c.raise.new.disk).tells = subst (λ k. IsTrue k.tells) (sym c.raise.ensures.makes.goes_on.same) told in
-          let self = c.args.self.now in
-          let kv = kv_of (g.T.MetaStore.shown self.meta).value (g.M.StateMachine.map self.state) self.running in
-          opening_made _ _ _ _ _ _ kv _ c.args.time c.requires.stands.ready.1.plain.no_lease
-          (raised_is (g.T.MetaStore.shown self.meta).value _ _ _ _ _ c.in_ok-raise.ensures.raised c.raise.ensures.map c.raise.ensures.running)
-          (c.commit_and_trim.ensures.makes.goes_on.told then).past (c.raise.ensures.makes.moves told held) (c.commit_and_trim.ensures.makes.moves then held);
-      done = not_done c.from_residual-in_err-commit_and_trim.result c.in_err-commit_and_trim.field-0.0 _ c.from_residual-in_err-commit_and_trim.ensures.1;
-      refused = at_exit c.from_residual-in_err-commit_and_trim.result c.in_err-commit_and_trim.field-0.0 _ c.from_residual-in_err-commit_and_trim.ensures.1 (record {
-        cause = refusal_behind _ _ _ _ c.in_err-commit_and_trim.field-0.0 (λ rose. omega (arith, rose, raised.makes.goes_on.counts)) (ap (λ (k : Kind). k.limit) raised.makes.goes_on.same) makes.refused.cause;
-        full = heavier _ _ _ _ _ _ _ _ c.in_err-commit_and_trim.field-0.0 (λ t. (subst (λ k. IsTrue k.tells) (sym c.raise.ensures.makes.goes_on.same) t.0, t.1))
-            (λ needed t short.
-            let self = c.args.self.now in
-            let then = c.raise.new.engine in
-            let kv = kv_of (g.T.MetaStore.shown then.meta).value (g.M.StateMachine.map then.state) then.running in
-            let log = (g.G.LogStore.shown then.log).value in
-            let most = (g.G.LogStore.shown self.log).weight + (g.T.MetaStore.shown self.meta).weight + (g.M.StateMachine.shown self.state).weight + opening_rise in
-            let files = (g.D.Disk.content c.commit_and_trim.new.disk).reading in
-            record {
-              kv = kv;
-              log = log;
-              next = Noop c.args.time;
-              is_begun = noop_begun _ _ _ _ c.args.time c.requires.stands.ready.1.plain.no_lease
-                  (raised_is (g.T.MetaStore.shown self.meta).value _ _ _ _ _ raised.raised c.raise.ensures.map c.raise.ensures.running) c.raise.ensures.log;
-              short = subst (λ n. IsSlotTooShort (step_sizes n log kv (Noop c.args.time)) most needed files) raised.makes.same_most (same_short _ _ most needed files (omega (arith, raised.makes.done.weight)) short);
-            })
-            (ap (λ (k : Kind). k.limit) raised.makes.goes_on.same) (omega (arith, raised.makes.done.weight)) makes.refused.full;
-        left = fails_behind c.in_err-commit_and_trim.field-0.0 _ _ _ (inl (c.in_err-commit_and_trim.ensures.still refl))
-            (ap (λ m. term_of (g.T.MetaStore.shown m).value) c.commit_and_trim.ensures.meta ∙ ap term_of raised.raised);
-      });
-    }
+-- the term was refused, and nothing was cleaned
+pub returns-in_err-begin_term-clause-makes : goal.returns-in_err-begin_term-clause-makes
+returns-in_err-begin_term-clause-makes g c =
+    let old = c.args.self.now in
+    let kv = kv_of (g.T.MetaStore.shown old.meta).value (g.M.StateMachine.map old.state) old.running in
+    same_steps _ _ _ _ _ _ _ _ _ _ _ (sym (opening_leads kv c.args.time (sym c.leads.ensures ∙ c.if-not-leads.false)))
+    (refused_first _ _ _ _ _ _ (Raise ∷ Noop c.args.time ∷ []) (first_cleanup kv c.args.time) _ _ _ _ c.in_err-begin_term.field-0.0 _ c.from_residual.ensures.1 (omega arith) inl c.in_err-begin_term.ensures.makes)
 
--- the first entry is in the log
+-- a term and a cleanup behind it
 pub returns-clause-makes : goal.returns-clause-makes
 returns-clause-makes g c =
-    let self = c.args.self.now in
-    let raised = c.in_ok-raise.ensures in
-    let makes = c.in_ok-commit_and_trim.ensures.makes in
-    let between = raised_is (g.T.MetaStore.shown self.meta).value _ _ _ _ _ c.in_ok-raise.ensures.raised c.raise.ensures.map c.raise.ensures.running in
-    record {
-      goes_on = disk_twice _ _ _ _ _ _ _ raised.makes.goes_on makes.goes_on;
-      same_most = makes.same_most ∙ raised.makes.same_most;
-      snapshot = spares_twice _ _ _ _ _ _ _ _ _ raised.makes.goes_on makes.goes_on raised.makes.snapshot makes.snapshot;
-      survives = λ told held.
-          let then : IsTrue (g.D.Disk.kind c.raise.new.disk).tells = subst (λ k. IsTrue k.tells) (sym c.raise.ensures.makes.goes_on.same) told in
-          let self = c.args.self.now in
-          let kv = kv_of (g.T.MetaStore.shown self.meta).value (g.M.StateMachine.map self.state) self.running in
-          opening_made _ _ _ _ _ _ kv _ c.args.time c.requires.stands.ready.1.plain.no_lease
-          (raised_is (g.T.MetaStore.shown self.meta).value _ _ _ _ _ c.in_ok-raise.ensures.raised c.raise.ensures.map c.raise.ensures.running)
-          (c.commit_and_trim.ensures.makes.goes_on.told then).past (c.raise.ensures.makes.moves told held) (c.commit_and_trim.ensures.makes.moves then held);
-      done = record {
-        state = opening_state _ _ _ _ c.args.time c.requires.stands.ready.1.plain.no_lease between makes.done.durable c.commit_and_trim.ensures.running;
-        logged = opening_log _ _ _ (kv_of (g.T.MetaStore.shown self.meta).value (g.M.StateMachine.map self.state) self.running) _ c.args.time c.requires.stands.ready.1.plain.no_lease between c.raise.ensures.log makes.done.logged;
-        weight = omega (arith, raised.makes.done.weight, makes.done.weight);
-        ready = c.in_ok-commit_and_trim.ensures.ready;
-        rests = λ told. makes.done.rests (subst (λ k. IsTrue k.tells) (sym raised.makes.goes_on.same) told);
-      };
-      refused = tt;
-    }
-
-pub returns-clause-log : goal.returns-clause-log
-returns-clause-log g c =
-    let self = c.args.self.now in
-    let raised = c.in_ok-raise.ensures in
-    opening_trimmed _ _ _ _ _ _ (kv_of (g.T.MetaStore.shown self.meta).value (g.M.StateMachine.map self.state) self.running) _ c.args.time c.requires.stands.ready.1.plain.no_lease
-    (raised_is (g.T.MetaStore.shown self.meta).value _ _ _ _ _ raised.raised c.raise.ensures.map c.raise.ensures.running) c.raise.ensures.log raised.makes.same_most c.in_ok-commit_and_trim.ensures.trimmed
+    let old = c.args.self.now in
+    let mid = c.begin_term.new.engine in
+    let kv = kv_of (g.T.MetaStore.shown old.meta).value (g.M.StateMachine.map old.state) old.running in
+    let between = kv_of (g.T.MetaStore.shown mid.meta).value (g.M.StateMachine.map mid.state) mid.running in
+    let makes = c.in_ok-begin_term.ensures.makes in
+    same_steps _ _ _ _ _ _ _ _ _ _ _ (opening_is kv between c.args.time (sym c.leads.ensures ∙ c.if-not-leads.false) makes.done.state)
+    (both_twice _ _ _ _ _ _ (Raise ∷ Noop c.args.time ∷ []) (first_cleanup between c.args.time) _ _ _ _ _ _ _ makes refl (omega arith) _ _ _
+    (fails_when _ _ _ _ _ c.clean_first-2.ensures.failed (λ same. inl (opening_term kv between _ c.args.time makes.done.state same)))
+    c.clean_first-2.ensures.makes)

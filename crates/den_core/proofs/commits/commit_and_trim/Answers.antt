@@ -4,7 +4,7 @@ use Rattle.den_core.specs.Trimmed.{mark_of}
 use Rattle.den_core.proofs.Behind.{changes_refused, changes_then}
 use Rattle.den_core.proofs.Trimming.{trimmed_behind}
 use Rattle.den_core.proofs.Weighing.{trim_among}
-use Rattle.den_core.proofs.engine.commit_and_trim.Goals as goal
+use Rattle.den_core.proofs.commits.commit_and_trim.Goals as goal
 
 -- the entry joined the log, which is too long
 pub returns-in_err-trim-clause-makes : goal.returns-in_err-trim-clause-makes

@@ -15,7 +15,7 @@ use Rattle.den_core.specs.PayloadSizes.{trim_sizes}
 use Rattle.den_core.proofs.Weighing.{full_by, heavier, same_short}
 use Rattle.den_journal.specs.Drafts.{IsSizeOf}
 use Rattle.den_store.specs.Changes.{purge_words}
-use Rattle.den_core.proofs.engine.trim.Goals as goal
+use Rattle.den_core.proofs.commits.trim.Goals as goal
 
 -- the log is short
 pub returns-then-not-is_long-clause-makes : goal.returns-then-not-is_long-clause-makes
@@ -121,7 +121,7 @@ returns-clause-makes g c =
         state = refl;
         logged = trimmed_is l s ready.caught_up over _ (writes.done.value ∙ is) c.requires.ends;
         weight = omega (arith, writes.done.weight);
-        ready = (refl, record { log = writes.done.ready; meta = ready.meta; state = ready.state; caught_up = caught; plain = ready.plain });
+        ready = (refl, record { log = writes.done.ready; meta = ready.meta; state = ready.state; caught_up = caught; goes_with = ready.goes_with });
         rests = λ told. record {
           log = writes.done.rests told;
           meta = g.met.T.MetaStore.lies.rests_own engine.meta _ _ (apart_own _ _ _ _ meta_log ((writes.moves told).spares)) (c.requires.stands.rests told).meta;
