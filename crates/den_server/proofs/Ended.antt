@@ -47,6 +47,7 @@ opening_ended disk_rose link_rose told refusal short then most held taken error.
 opening_ended disk_rose link_rose told refusal short then most held taken error.ProposeFailed means h = h
 opening_ended disk_rose link_rose told refusal short then most held taken (error.UnorderedChunk index) means h = absurd h
 opening_ended disk_rose link_rose told refusal short then most held taken (error.Config place) means h = absurd h
+opening_ended disk_rose link_rose told refusal short then most held taken error.ConfigFault means h = absurd h
 opening_ended disk_rose link_rose told refusal short then most held taken error.StateMachineError means h = absurd h
 
 pub serving_ended : (disk_rose disk_rose' link_rose told more : Type 0) (refusal : Option Error) (slot : ℕ → Type 0) (short : (most needed : ℕ) → Type 0) (most weight held taken : ℕ) (e : Error) → (disk_rose → disk_rose') → (told → more)
@@ -73,6 +74,7 @@ serving_ended disk_rose disk_rose' link_rose told more refusal slot short most w
 serving_ended disk_rose disk_rose' link_rose told more refusal slot short most weight held taken error.ProposeFailed grow so means none light h full = absurd h
 serving_ended disk_rose disk_rose' link_rose told more refusal slot short most weight held taken (error.UnorderedChunk index) grow so means none light h full = absurd h
 serving_ended disk_rose disk_rose' link_rose told more refusal slot short most weight held taken (error.Config place) grow so means none light h full = absurd h
+serving_ended disk_rose disk_rose' link_rose told more refusal slot short most weight held taken error.ConfigFault grow so means none light h full = absurd h
 serving_ended disk_rose disk_rose' link_rose told more refusal slot short most weight held taken error.StateMachineError grow so means none light h full = absurd h
 
 some_is : (o : Option Error) (d e : Error) → o ≡ Some d → o ≡ Some e → d ≡ e
@@ -93,6 +95,7 @@ away disk_rose told refusal short most held e (error.DiskFull needed limit) t is
 away disk_rose told refusal short most held e error.LinkFault t is h = absurd h
 away disk_rose told refusal short most held e (error.UnorderedChunk index) t is h = absurd h
 away disk_rose told refusal short most held e (error.Config place) t is h = absurd h
+away disk_rose told refusal short most held e error.ConfigFault t is h = absurd h
 away disk_rose told refusal short most held e error.StateMachineError t is h = absurd h
 
 pub refused_not_read : (refusal : Option Error) (e : Error) → refusal ≡ None → refusal ≡ Some e → ⊥
@@ -114,6 +117,7 @@ completed_err disk_rose link_rose told refusal short most held taken left (error
 completed_err disk_rose link_rose told refusal short most held taken left error.LinkFault t none disk link le small h = absurd (link h)
 completed_err disk_rose link_rose told refusal short most held taken left (error.UnorderedChunk index) t none disk link le small h = absurd h
 completed_err disk_rose link_rose told refusal short most held taken left (error.Config place) t none disk link le small h = absurd h
+completed_err disk_rose link_rose told refusal short most held taken left error.ConfigFault t none disk link le small h = absurd h
 completed_err disk_rose link_rose told refusal short most held taken left error.StateMachineError t none disk link le small h = absurd h
 
 pub completed : (disk_rose link_rose told : Type 0) (refusal : Option Error) (short : (most needed : ℕ) → Type 0) (most held taken left : ℕ) (r : Result (Unit {0}) Error) → told → refusal ≡ None → (disk_rose → ⊥) → (link_rose → ⊥)

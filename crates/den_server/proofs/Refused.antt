@@ -1,5 +1,5 @@
 -- What a folder's files are refused for, by what was read of them.
-use Rattle.std.proofs.Common.{cond, nat_lt, List, [], ◌∷◌, length, ◌≡◌, ⊎_elim, ◌<◌, ◌≤◌, ◌+◌, ◌*◌, IsSome, ℕ, Bool, true, false, Option, Some, None, Result, Ok, Err, OnOk, IfOk, IfErr, IsOk, if◌then◌else◌, refl, sym, ◌∙◌, ap, subst, arith}
+use Rattle.std.proofs.Common.{cond, not, ◌&&◌, nat_lt, List, [], ◌∷◌, length, ◌≡◌, ⊎_elim, ◌<◌, ◌≤◌, ◌+◌, ◌*◌, IsSome, ℕ, Bool, true, false, Option, Some, None, Result, Ok, Err, OnOk, IfOk, IfErr, IsOk, if◌then◌else◌, refl, sym, ◌∙◌, ap, subst, arith}
 use Rattle.den_disk.specs.declared.place.Family.TheVariants as family
 use Rattle.den_disk.specs.Place.{place_number}
 use Rattle.den_disk.specs.Files.{Files}
@@ -34,38 +34,43 @@ recovered_is : (files : Files) → recovered files ≡ joint files (log_in files
 unfolding recovered
 recovered_is files = refl
 
-abbrev by_parts : Files → Result Log ℕ → Result (Option HardState) ℕ → Result MapState ℕ → Option Error
-by_parts files a b c = refusal_for (lease_asked a c) (joint files a b c)
+abbrev by_parts : Bool → Files → Result Log ℕ → Result (Option HardState) ℕ → Result MapState ℕ → Option Error
+by_parts leased files a b c = refusal_for (not leased && lease_asked a c) (joint files a b c)
 
-refusal_is : (files : Files) → refusal_in files ≡ by_parts files (log_in files) (hard_state_held files) (map_in files)
-refusal_is files = ap (refusal_for (lease_asked (log_in files) (map_in files))) (recovered_is files)
+refusal_is : (leased : Bool) (files : Files) → refusal_in leased files ≡ by_parts leased files (log_in files) (hard_state_held files) (map_in files)
+refusal_is leased files = ap (refusal_for (not leased && lease_asked (log_in files) (map_in files))) (recovered_is files)
 
-log_unread : (files : Files) (place offset : ℕ) → place ≡ place_number (slot_of family.Log files) → log_in files ≡ Err offset → refusal_in files ≡ Some (error.DataCorruption place offset)
-log_unread files place offset at bad = refusal_is files ∙ (λ i. by_parts files (bad i) (hard_state_held files) (map_in files)) ∙ ap (λ p. Some (error.DataCorruption p offset)) (sym at)
+log_unread : (leased : Bool) (files : Files) (place offset : ℕ) → place ≡ place_number (slot_of family.Log files) → log_in files ≡ Err offset
+    → refusal_in leased files ≡ Some (error.DataCorruption place offset)
+log_unread leased files place offset at bad =
+    refusal_is leased files ∙ (λ i. by_parts leased files (bad i) (hard_state_held files) (map_in files)) ∙ ap (λ p. Some (error.DataCorruption p offset)) (sym at)
 
-meta_unread : (files : Files) (l : Log) (place offset : ℕ) → log_in files ≡ Ok l → place ≡ place_number (slot_of family.Meta files) → hard_state_held files ≡ Err offset
-    → refusal_in files ≡ Some (error.DataCorruption place offset)
-meta_unread files l place offset log at bad = refusal_is files ∙ (λ i. by_parts files (log i) (bad i) (map_in files)) ∙ ap (λ p. Some (error.DataCorruption p offset)) (sym at)
+meta_unread : (leased : Bool) (files : Files) (l : Log) (place offset : ℕ) → log_in files ≡ Ok l → place ≡ place_number (slot_of family.Meta files) → hard_state_held files ≡ Err offset
+    → refusal_in leased files ≡ Some (error.DataCorruption place offset)
+meta_unread leased files l place offset log at bad =
+    refusal_is leased files ∙ (λ i. by_parts leased files (log i) (bad i) (map_in files)) ∙ ap (λ p. Some (error.DataCorruption p offset)) (sym at)
 
 some_log : (r : Result Log ℕ) → IsOk r → (l : Log) × (r ≡ Ok l)
 some_log (Ok l) is = (l, refl)
 some_log (Err offset) is = absurd (cc is)
 
-pub storage_unread : (files : Files) (place offset : ℕ) → IsFirstCorrupt files place offset → refusal_in files ≡ Some (error.DataCorruption place offset)
-storage_unread files place offset h = ⊎_elim
-    (λ log. log_unread files place offset log.0 log.1)
-    (λ meta. let some = some_log (log_in files) meta.0 in meta_unread files some.0 place offset some.1 meta.1 meta.2)
+pub storage_unread : (leased : Bool) (files : Files) (place offset : ℕ) → IsFirstCorrupt files place offset → refusal_in leased files ≡ Some (error.DataCorruption place offset)
+storage_unread leased files place offset h = ⊎_elim
+    (λ log. log_unread leased files place offset log.0 log.1)
+    (λ meta. let some = some_log (log_in files) meta.0 in meta_unread leased files some.0 place offset some.1 meta.1 meta.2)
     h
 
-pub state_unread : (files : Files) (l : Log) (h : Option HardState) (place offset : ℕ) → log_in files ≡ Ok l → hard_state_held files ≡ Ok h
-    → place ≡ place_number (slot_of family.State files) → map_in files ≡ Err offset → refusal_in files ≡ Some (error.DataCorruption place offset)
-state_unread files l h place offset log meta at bad = refusal_is files ∙ (λ i. by_parts files (log i) (meta i) (bad i)) ∙ ap (λ p. Some (error.DataCorruption p offset)) (sym at)
+pub state_unread : (leased : Bool) (files : Files) (l : Log) (h : Option HardState) (place offset : ℕ) → log_in files ≡ Ok l → hard_state_held files ≡ Ok h
+    → place ≡ place_number (slot_of family.State files) → map_in files ≡ Err offset → refusal_in leased files ≡ Some (error.DataCorruption place offset)
+state_unread leased files l h place offset log meta at bad =
+    refusal_is leased files ∙ (λ i. by_parts leased files (log i) (meta i) (bad i)) ∙ ap (λ p. Some (error.DataCorruption p offset)) (sym at)
 
-pub read_refusal : (files : Files) (l : Log) (h : Option HardState) (s : MapState) (place : ℕ) → IsRead files l h s → place ≡ place_number (slot_of family.Log files)
-    → refusal_in files ≡ opening_refusal place l h s
-read_refusal files l h s place read at =
-    refusal_is files ∙ (λ i. by_parts files (read.log i) (read.hard_state i) (read.map i))
-    ∙ ap (λ p. opening_refusal p l h s) (sym at)
+-- with leases where the map has them
+pub read_refusal : (leased has : Bool) (files : Files) (l : Log) (h : Option HardState) (s : MapState) (place : ℕ) → has ≡ leased → IsRead files l h s → place ≡ place_number (slot_of family.Log files)
+    → refusal_in leased files ≡ opening_refusal has place l h s
+read_refusal leased has files l h s place same read at =
+    refusal_is leased files ∙ (λ i. by_parts leased files (read.log i) (read.hard_state i) (read.map i))
+    ∙ (λ i. opening_refusal (sym same i) (sym at i) l h s)
 
 pub read_durable : (files : Files) (l : Log) (h : Option HardState) (s : MapState) → IsRead files l h s → durable_in files ≡ durable l h s
 read_durable files l h s read = λ i. joined (ok (read.log i)) (ok (read.hard_state i)) (ok (read.map i))
@@ -83,6 +88,7 @@ unread_refused rose rose' told refusal corrupt error.FeatureNotEnabled grow soun
 unread_refused rose rose' told refusal corrupt error.ProposeFailed grow sound h = absurd h
 unread_refused rose rose' told refusal corrupt (error.UnorderedChunk index) grow sound h = absurd h
 unread_refused rose rose' told refusal corrupt (error.Config place) grow sound h = absurd h
+unread_refused rose rose' told refusal corrupt error.ConfigFault grow sound h = absurd h
 unread_refused rose rose' told refusal corrupt error.StateMachineError grow sound h = absurd h
 
 pub folder_refused : (rose told : Type 0) (refusal : Option Error) (short : (most needed : ℕ) → Type 0) (most held : ℕ) (e : Error) → IsUnreadFolder rose told refusal e → IsRunRefusal rose ⊥ told refusal short most held 0 e
@@ -95,6 +101,7 @@ folder_refused rose told refusal short most held error.FeatureNotEnabled h = abs
 folder_refused rose told refusal short most held error.ProposeFailed h = absurd h
 folder_refused rose told refusal short most held (error.UnorderedChunk index) h = absurd h
 folder_refused rose told refusal short most held (error.Config place) h = absurd h
+folder_refused rose told refusal short most held error.ConfigFault h = absurd h
 folder_refused rose told refusal short most held error.StateMachineError h = absurd h
 
 much_opened : (most weight held : ℕ) → weight ≤ opened_weight held → most < 4 * weight → IsMuch most (held + 0)
@@ -123,6 +130,7 @@ disk_refused rose rose' told more refusal slot short most weight held error.Feat
 disk_refused rose rose' told more refusal slot short most weight held error.ProposeFailed grow so means none light h full = absurd h
 disk_refused rose rose' told more refusal slot short most weight held (error.UnorderedChunk index) grow so means none light h full = absurd h
 disk_refused rose rose' told more refusal slot short most weight held (error.Config place) grow so means none light h full = absurd h
+disk_refused rose rose' told more refusal slot short most weight held error.ConfigFault grow so means none light h full = absurd h
 disk_refused rose rose' told more refusal slot short most weight held error.StateMachineError grow so means none light h full = absurd h
 
 some_is : (e d : Error) → Some d ≡ Some e → d ≡ e
@@ -138,10 +146,10 @@ refusal_kind P place false (Some d) e corrupt feature propose p = exhausted (is_
   exhausted true q = subst P (some_is e error.ProposeFailed q) propose
   exhausted false q = absurd (cc q)
 
-pub failure_refused : (rose rose' told more : Type 0) (refusal : Option Error) (slot : ℕ → Type 0) (short : (most needed : ℕ) → Type 0) (most weight held place : ℕ) (l : Log) (h : Option HardState) (s : MapState) (e : Error) → (rose → rose') → (told → more)
-    → ((needed : ℕ) → told → weight ≤ most_run held 0 → slot needed → short (most_run held 0) needed) → (told → refusal ≡ opening_refusal place l h s) → (told → weight ≤ opened_weight held) → IsOpeningFailure rose most (opening_refusal place l h s) e → IsFullBy more slot most weight e
+pub failure_refused : (rose rose' told more : Type 0) (refusal : Option Error) (slot : ℕ → Type 0) (short : (most needed : ℕ) → Type 0) (most weight held : ℕ) (leased : Bool) (place : ℕ) (l : Log) (h : Option HardState) (s : MapState) (e : Error) → (rose → rose') → (told → more)
+    → ((needed : ℕ) → told → weight ≤ most_run held 0 → slot needed → short (most_run held 0) needed) → (told → refusal ≡ opening_refusal leased place l h s) → (told → weight ≤ opened_weight held) → IsOpeningFailure rose most (opening_refusal leased place l h s) e → IsFullBy more slot most weight e
     → IsRunRefusal rose' ⊥ told refusal short most held 0 e
-failure_refused rose rose' told more refusal slot short most weight held place l h s e grow so means same light failure full = ⊎_elim
+failure_refused rose rose' told more refusal slot short most weight held leased place l h s e grow so means same light failure full = ⊎_elim
     (λ is. refusal_kind (λ f. (told → refusal ≡ Some f) → IsRunRefusal rose' ⊥ told refusal short most held 0 f) place _ (durable l h s) e (λ r. r) (λ r. r) (λ r. r) is (λ t. same t ∙ is))
     (λ other. ⊎_elim (λ memory. subst (IsRunRefusal rose' ⊥ told refusal short most held 0) (sym memory) (record {}))
     (λ disk. disk_refused rose rose' told more refusal slot short most weight held e grow so means (λ t. same t ∙ disk.0) light disk.1 full) other)

@@ -55,6 +55,7 @@ settled_or_same A error.FeatureNotEnabled old new h = inr h
 settled_or_same A error.ProposeFailed old new h = inr h
 settled_or_same A (error.UnorderedChunk index) old new h = inr h
 settled_or_same A (error.Config place) old new h = inr h
+settled_or_same A error.ConfigFault old new h = inr h
 settled_or_same A error.StateMachineError old new h = inr h
 
 -- no sync succeeded

@@ -3,7 +3,7 @@ use Rattle.std.specs.Prelude.{◌≡◌, ◌<◌, ◌≤◌, ◌⊎◌, ◌+◌,
 use Rattle.den_disk.specs.Files.{Files}
 use Rattle.den_gate.specs.Slot.{room_for}
 use Rattle.den_codec.specs.declared.error.Error.{Error}
-use Rattle.den_codec.specs.declared.error.Error.TheVariants.{OutOfMemory, StorageIoError, DiskFull, LinkFault, DataCorruption, FeatureNotEnabled, ProposeFailed, UnorderedChunk, Config, StateMachineError}
+use Rattle.den_codec.specs.declared.error.Error.TheVariants.{OutOfMemory, StorageIoError, DiskFull, LinkFault, DataCorruption, FeatureNotEnabled, ProposeFailed, UnorderedChunk, Config, ConfigFault, StateMachineError}
 use Rattle.den_model.specs.Image.{log_in, map_in}
 use Rattle.den_model.specs.Log.{Log, above}
 use Rattle.den_model.specs.MapState.{MapState}
@@ -22,6 +22,7 @@ IsUnreadFolder disk_rose told refusal FeatureNotEnabled = ⊥
 IsUnreadFolder disk_rose told refusal ProposeFailed = ⊥
 IsUnreadFolder disk_rose told refusal (UnorderedChunk index) = ⊥
 IsUnreadFolder disk_rose told refusal (Config place) = ⊥
+IsUnreadFolder disk_rose told refusal ConfigFault = ⊥
 IsUnreadFolder disk_rose told refusal StateMachineError = ⊥
 
 -- so many bytes, of files and of input, are much beside the limit of a file
@@ -67,6 +68,7 @@ IsRunRefusal disk_rose link_rose told refusal short most held taken FeatureNotEn
 IsRunRefusal disk_rose link_rose told refusal short most held taken ProposeFailed = told → refusal ≡ Some ProposeFailed
 IsRunRefusal disk_rose link_rose told refusal short most held taken (UnorderedChunk index) = ⊥
 IsRunRefusal disk_rose link_rose told refusal short most held taken (Config place) = ⊥
+IsRunRefusal disk_rose link_rose told refusal short most held taken ConfigFault = ⊥
 IsRunRefusal disk_rose link_rose told refusal short most held taken StateMachineError = ⊥
 
 -- files that are refused are answered so, but for want of memory and faults of the disk

@@ -1,5 +1,5 @@
 -- What opening finds in a folder's files, and what a crash leaves meanwhile.
-use Rattle.std.specs.Prelude.{◌≡◌, ◌||◌, ◌+◌, ◌*◌, ◌≤◌, ◌<◌, ℕ, Bool, false, List, Option, Result, Ok, Err}
+use Rattle.std.specs.Prelude.{◌≡◌, ◌&&◌, ◌||◌, not, ◌+◌, ◌*◌, ◌≤◌, ◌<◌, ℕ, Bool, false, List, Option, Result, Ok, Err}
 use Rattle.den_disk.specs.Files.{Files, Content}
 use Rattle.den_disk.specs.Families.{SparesAll}
 use Rattle.den_codec.specs.declared.error.Error.{Error}
@@ -25,10 +25,10 @@ lease_asked (Ok l) (Ok s) = has_expiry s || asks_lease (above s.mark.index l.ent
 lease_asked (Ok l) (Err offset) = false
 lease_asked (Err offset) s = false
 
--- Why files are refused, if they are: they stand for nothing, and where; then a lease is asked for, and none is
--- configured; then no term or no index is left.
-abbrev pub refusal_in : Files → Option Error
-refusal_in files = refusal_for (lease_asked (log_in files) (map_in files)) (recovered files)
+-- Why files are refused, with leases or without, if they are: they stand for nothing, and where; then a lease is asked
+-- for, and none is configured; then no term or no index is left.
+abbrev pub refusal_in : (leased : Bool) → Files → Option Error
+refusal_in leased files = refusal_for (not leased && lease_asked (log_in files) (map_in files)) (recovered files)
 
 -- what log, hard state and map are read as
 pub record IsRead (files : Files) (l : Log) (h : Option HardState) (s : MapState) : Type 0 where

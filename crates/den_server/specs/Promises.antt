@@ -1,5 +1,5 @@
 -- What a run promises, of the disk, the link and the clock that it is lent, as they are at entry and at its end.
-use Rattle.std.specs.Prelude.{◌≡◌, ◌⊎◌, ◌<◌, ◌+◌, ◌-◌, ℕ, List, Some, None, Ok, IsTrue, length}
+use Rattle.std.specs.Prelude.{◌≡◌, ◌⊎◌, ◌<◌, ◌+◌, ◌-◌, ℕ, List, Option, Some, None, Ok, IsTrue, length}
 use Rattle.den_disk.specs.declared.clock.Clock.{Ghosts as Clocks}
 use Rattle.den_disk.specs.declared.disk.Disk.{Ghosts as Disks}
 use Rattle.den_disk.specs.declared.link.Link.{Ghosts as Links}
@@ -37,6 +37,10 @@ pub record RunConfig : Type 0 where
 
 abbrev pub run_config : RaftNodeConfig → RunConfig
 run_config c = record { running = running_of c; frame_limit = c.network.max_frame_size; max_log_entries = c.raft.max_log_entries }
+
+-- why files are refused under a configuration
+abbrev pub refused_for : RunConfig → Files → Option Error
+refused_for config files = refusal_in config.running.setting.lease files
 
 -- what a run begins with, over files that stand for a durable part
 abbrev pub start : RunConfig → Durable → Kv
@@ -124,18 +128,18 @@ module _ {D L C : Type 0} (disk : Disks D) (link : Links L) (clock : Clocks C) w
     -- the end for a payload that was to be written then, and only where the bytes of its regions at entry and those
     -- taken from the link are much.
     abbrev pub EndsEarly : Error → Type 0
-    EndsEarly e = IsRunRefusal (Faulted disk old new) (Rose (link.faults from) (link.faults to)) (DiskTells disk old) (refusal_in (disk.content old).reading)
+    EndsEarly e = IsRunRefusal (Faulted disk old new) (Rose (link.faults from) (link.faults to)) (DiskTells disk old) (refused_for config (disk.content old).reading)
         IsRunTooShort (disk.kind old).limit (files_size (disk.content old).reading) (link.taken to - link.taken from) e
 
 -- Files that are to be refused are: nothing is written, read, sent or timed.
-abbrev pub TurnsAway : {D L C : Type 0} (disk : Disks D) (refused : Error → Type 0) (old new : D) (from to : L) (before after : C) → Type 0
-TurnsAway disk refused old new from to before after = (e : Error) → DiskTells disk old → refusal_in (disk.content old).reading ≡ Some e
+abbrev pub TurnsAway : {D L C : Type 0} (disk : Disks D) (config : RunConfig) (refused : Error → Type 0) (old new : D) (from to : L) (before after : C) → Type 0
+TurnsAway disk config refused old new from to before after = (e : Error) → DiskTells disk old → refused_for config (disk.content old).reading ≡ Some e
     → refused e × IsUnwritten (disk.content old) (disk.content new) (NoNewImages (disk.images old) (disk.images new) (disk.moment old) (disk.moment new))
     × (to ≡ from) × (after ≡ before)
 
-module _ {D L : Type 0} (disk : Disks D) (link : Links L) (old new : D) (from to : L) where
+module _ {D L : Type 0} (disk : Disks D) (link : Links L) (config : RunConfig) (old new : D) (from to : L) where
   -- Files that are not refused and an input, neither of them much, are served, but for faults and want of memory.
   abbrev pub Completes : (served memory : Type 0) → Type 0
-  Completes served memory = DiskTells disk old → IsTrue (link.tells from) → refusal_in (disk.content old).reading ≡ None
+  Completes served memory = DiskTells disk old → IsTrue (link.tells from) → refused_for config (disk.content old).reading ≡ None
       → (Faulted disk old new → ⊥) → (Rose (link.faults from) (link.faults to) → ⊥)
       → (IsMuch (disk.kind old).limit (files_size (disk.content old).reading + length (link.left from)) → ⊥) → served ⊎ memory

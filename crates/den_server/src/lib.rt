@@ -7,10 +7,16 @@
 //! Slots and regions are named here in one place only: in what `refusal_in` (specs/Opening.antt) says of corrupt files.
 //!
 //!     StandaloneEngine::run(alloc, &mut disk, &mut link, &mut clock, &config)?;
+//!
+//! `StandaloneEngine::run_custom` serves over stores, a state machine and a core of the caller's own. What it promises is of
+//! what these hold as they are handed in: each promise is a definition of specs/Custom.antt. What is sent it says whether
+//! the stores tell what their files give or not; what the files stand for only where they tell it.
+//! `StandaloneEngine::run_with` reads the configuration from a source, and runs under it: specs/Configured.antt.
 #![tactic(auto)]
 
+mod configured;
+mod custom;
 mod folder;
-mod nodes;
 mod standalone;
 
 pub use standalone::StandaloneEngine;

@@ -16,7 +16,8 @@ pub struct StandaloneEngine;
 impl StandaloneEngine {
     /// Serves the frames of a link, to the end of its input, from the files of a folder. Each write is on the disk before
     /// a byte of its reply is sent. Files that stand for nothing are refused as `DataCorruption`, those that ask for a
-    /// lease as `FeatureNotEnabled`, those that leave no term or index as `ProposeFailed`; nothing is written then.
+    /// lease where the configuration enables none as `FeatureNotEnabled`, those that leave no term or index as
+    /// `ProposeFailed`; nothing is written then.
     /// `StorageIoError` and `LinkFault` where the disk's or the link's count of faults rose, `DiskFull` where a file would
     /// pass the disk's limit.
     pub fn run<D: Disk, L: Link, C: Clock>(
@@ -55,10 +56,10 @@ impl StandaloneEngine {
         ensures refused { IfErr result (EndsEarly D.Disk L.Link C.Clock (run_config config.now.node) disk.old disk.new link.old link.new clock.old clock.new) }
 
         // Files that are to be refused are: nothing is written, read, sent or timed.
-        ensures turned_away { TurnsAway D.Disk (λ e. IsTurnedAway e result) disk.old disk.new link.old link.new clock.old clock.new }
+        ensures turned_away { TurnsAway D.Disk (run_config config.now.node) (λ e. IsTurnedAway e result) disk.old disk.new link.old link.new clock.old clock.new }
 
         // Files that are not refused and an input, neither of them much, are served, but for faults and want of memory.
-        ensures complete { Completes D.Disk L.Link disk.old disk.new link.old link.new (result ≡ Ok tt) (result ≡ Err OutOfMemory) }
+        ensures complete { Completes D.Disk L.Link (run_config config.now.node) disk.old disk.new link.old link.new (result ≡ Ok tt) (result ≡ Err OutOfMemory) }
 
         // Disk, link and clock go on as over any call; the files of the snapshot stay as they are, and a crash leaves them
         // as it could at entry.

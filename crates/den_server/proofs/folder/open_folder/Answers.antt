@@ -1,10 +1,11 @@
-use Rattle.std.proofs.Common.{IsTrue, le_trans, ◌≤◌, ◌+◌, ◌*◌, ℕ, [], Ok, refl, sym, subst, ap, ◌∙◌, arith}
+use Rattle.std.proofs.Common.{Bool, IsTrue, le_trans, ◌≤◌, ◌+◌, ◌*◌, ℕ, [], Ok, refl, sym, subst, ap, ◌∙◌, arith}
 use Rattle.den_disk.specs.Files.{Kind}
 use Rattle.den_disk.specs.Goes.{Rose}
 use Rattle.den_model.specs.Image.{durable_in}
 use Rattle.den_model.specs.Kv.{Kv}
 use Rattle.den_model.specs.declared.running.Running.{Running}
 use Rattle.den_codec.specs.Standard.{entered}
+use Rattle.den_core.specs.Cores.{running_under, solo_view}
 use Rattle.den_core.specs.Opening.{opening_refusal, IsOpeningFailure}
 use Rattle.den_store.specs.FileLog.{log_shown, file_place}
 use Rattle.den_store.specs.FileMeta.{meta_shown}
@@ -12,18 +13,19 @@ use Rattle.den_disk.specs.Families.{NoNewImages}
 use Rattle.den_core.specs.Full.{IsFullBy, IsSlotTooShort}
 use Rattle.den_core.specs.PayloadSizes.{chunk_sizes}
 use Rattle.den_core.proofs.Weighing.{same_short}
-use Rattle.den_server.specs.Causes.{IsCatchUpTooShort, most_run}
+use Rattle.den_server.specs.Causes.{IsCatchUpTooShort, IsUnreadFolder, most_run}
 use Rattle.den_model.specs.Log.{above}
 use Rattle.den_model.specs.Sizes.{entries_size, files_size, store_rise}
 use Rattle.den_server.specs.Opening.{refusal_in, held_weight, opened_weight, IsUnwritten}
 use Rattle.den_server.proofs.Ended.{rose_then, some_same, kv_is}
+use Rattle.den_server.proofs.Entered.{running_is, leads_of}
 use Rattle.den_server.proofs.Refused.{read_refusal, read_durable, folder_refused, failure_refused, some_refused, if_err_two, if_ok_weaker, if_ok_two, if_ok_on, above_size}
 use Rattle.den_server.proofs.Settled.{spares_read, no_call, never_settles, settled_survives}
 use Rattle.den_server.proofs.Surviving.{opening_then}
 use Rattle.den_disk.specs.declared.place.Family.TheVariants.{Snapshot as snapshot_family}
 use Rattle.den_core.proofs.Spared.{spares_still, spares_twice}
 use Rattle.den_server.proofs.folder.open_folder.Goals as goal
-use Rattle.den_state.specs.FileState.{state_map}
+use Rattle.den_state.specs.FileState.{state_map, state_settings}
 
 -- ---- what a crash leaves
 
@@ -50,22 +52,30 @@ returns-clause-opening g c = λ kept told stands.
     let told1 : IsTrue (D.kind mid).tells = subst (λ (k : Kind). IsTrue k.tells) (sym c.open_stores.ensures.disk.same) told in
     let goes = c.recover.ensures.disk.told told1 in
     let start = entered c.args.config.now kept in
+    let core = c.in-Ok.prepared.core in
     let joint = read_durable (D.content disk).reading _ _ _ (c.in-Ok-open_stores.ensures.read told) in
     opening_then durable_in (D.images disk) (D.images mid) (D.images c.recover.new.disk) (D.moment disk) (D.moment mid) (D.moment c.recover.new.disk) _ _ _ _ [] start
-    (record { durable = kept; running = c.in-Ok.prepared.running }) (λ (k : Kv). []) refl goes.later goes.past
+    (record { durable = kept; running = running_under c.args.config.now (solo_view core.node.id core.term) (state_settings c.in-Ok-open_stores.stores.state).leased }) (λ (k : Kv). []) refl goes.later goes.past
     (settled_survives durable_in (D.images disk) (D.images mid) (D.moment disk) (D.moment mid) _ _ (D.content disk).reading start stands (c.open_stores.ensures.images told)
     (c.in-Ok-open_stores.ensures.settles told))
-    (ap (λ (r : Running). record { durable = kept; running = r }) c.in-Ok.ensures.running)
+    (ap (λ (r : Running). record { durable = kept; running = r })
+    (running_is c.args.config.now (solo_view core.node.id core.term) _ c.in-Ok.ensures.core (c.in-Ok-open_stores.ensures.leased ∙ c.in-Ok.ensures.leased)))
     (c.recover.ensures.survives kept told1 (tt, tt, tt) (sym joint ∙ stands))
 
 -- ---- what the engine holds
 
 pub returns-clause-kv : goal.returns-clause-kv
 returns-clause-kv g c = if_ok_two c.recover.result _ _ _
-    (λ engine opened running kept told stands. kv_is _ kept _
+    (λ engine opened running kept told stands. let core = c.in-Ok.prepared.core in kv_is _ kept _
     (some_same _ _ kept opened (sym (read_durable (g.D.Disk.content c.args.disk.now).reading _ _ _ (c.in-Ok-open_stores.ensures.read told)) ∙ stands))
-    (running ∙ c.in-Ok.ensures.running))
+    (running ∙ running_is c.args.config.now (solo_view core.node.id core.term) _ c.in-Ok.ensures.core (c.in-Ok-open_stores.ensures.leased ∙ c.in-Ok.ensures.leased)))
     c.recover.ensures.opened c.recover.ensures.running
+
+pub returns-clause-leads : goal.returns-clause-leads
+returns-clause-leads g c = if_ok_weaker c.recover.result _ _
+    (λ engine running. let core = c.in-Ok.prepared.core in leads_of _ c.args.config.now
+    (running ∙ running_is c.args.config.now (solo_view core.node.id core.term) _ c.in-Ok.ensures.core (c.in-Ok-open_stores.ensures.leased ∙ c.in-Ok.ensures.leased)))
+    c.recover.ensures.running
 
 pub returns-clause-log : goal.returns-clause-log
 returns-clause-log g c = if_ok_weaker c.recover.result _ _ (λ engine is told. (c.in-Ok-open_stores.ensures.read told).log ∙ ap Ok (sym is)) c.recover.ensures.log
@@ -89,16 +99,19 @@ returns-clause-weight g c = if_ok_weaker c.recover.result _ _
 
 pub returns-clause-accepted : goal.returns-clause-accepted
 returns-clause-accepted g c = if_ok_on c.recover.result _ _
-    (λ engine none told. read_refusal (g.D.Disk.content c.args.disk.now).reading _ _ _ _ (c.in-Ok-open_stores.ensures.read told) (c.in-Ok-open_stores.ensures.place told) ∙ none)
+    (λ engine none told. read_refusal c.args.config.now.raft.lease.enabled (state_settings c.in-Ok-open_stores.stores.state).leased (g.D.Disk.content c.args.disk.now).reading _ _ _ _
+    (c.in-Ok-open_stores.ensures.leased ∙ c.in-Ok.ensures.leased) (c.in-Ok-open_stores.ensures.read told) (c.in-Ok-open_stores.ensures.place told) ∙ none)
     c.recover.ensures.unrefused
 
 pub returns-in-Err-open_stores-clause-refused : goal.returns-in-Err-open_stores-clause-refused
 returns-in-Err-open_stores-clause-refused g c =
     let D = g.D.Disk in
     let disk = c.args.disk.now in
-    folder_refused (Rose (D.faults disk) (D.faults c.open_stores.new.disk)) (IsTrue (D.kind disk).tells) (refusal_in (D.content disk).reading)
+    folder_refused (Rose (D.faults disk) (D.faults c.open_stores.new.disk)) (IsTrue (D.kind disk).tells) (refusal_in c.args.config.now.raft.lease.enabled (D.content disk).reading)
     (λ most needed. IsCatchUpTooShort (D.content disk).reading most needed (D.content c.open_stores.new.disk).reading) (D.kind disk).limit (files_size (D.content disk).reading)
-    c.in-Err-open_stores.error c.in-Err-open_stores.ensures.refused
+    c.in-Err-open_stores.error
+    (subst (λ (leased : Bool). IsUnreadFolder (Rose (D.faults disk) (D.faults c.open_stores.new.disk)) (IsTrue (D.kind disk).tells) (refusal_in leased (D.content disk).reading) c.in-Err-open_stores.error)
+    c.in-Ok.ensures.leased c.in-Err-open_stores.ensures.refused)
 
 pub returns-clause-refused : goal.returns-clause-refused
 returns-clause-refused g c = if_err_two c.recover.result _ _ _
@@ -107,13 +120,15 @@ returns-clause-refused g c = if_err_two c.recover.result _ _ _
     let disk = c.args.disk.now in
     let stores = c.in-Ok-open_stores.stores in
     let rose = Rose (D.faults c.open_stores.new.disk) (D.faults c.recover.new.disk) in
-    let refusal = opening_refusal (file_place stores.log) (log_shown stores.log).value (meta_shown stores.meta).value (state_map stores.state) in
+    let enabled = c.args.config.now.raft.lease.enabled in
+    let leased = (state_settings stores.state).leased in
+    let refusal = opening_refusal leased (file_place stores.log) (log_shown stores.log).value (meta_shown stores.meta).value (state_map stores.state) in
     let entries = (log_shown stores.log).value.entries in
     let more = entries_size (above (state_map stores.state).mark.index entries) in
     let weight = held_weight stores.log stores.meta stores.state + store_rise more in
     let sizes = chunk_sizes (state_map stores.state) (above (state_map stores.state).mark.index entries) in
-    failure_refused rose _ (IsTrue (D.kind disk).tells) _ (refusal_in (D.content disk).reading)
-    (λ needed. IsSlotTooShort sizes weight needed (D.content c.recover.new.disk).reading) (λ most needed. IsCatchUpTooShort (D.content disk).reading most needed (D.content c.recover.new.disk).reading) (D.kind disk).limit weight (files_size (D.content disk).reading) (file_place stores.log)
+    failure_refused rose _ (IsTrue (D.kind disk).tells) _ (refusal_in enabled (D.content disk).reading)
+    (λ needed. IsSlotTooShort sizes weight needed (D.content c.recover.new.disk).reading) (λ most needed. IsCatchUpTooShort (D.content disk).reading most needed (D.content c.recover.new.disk).reading) (D.kind disk).limit weight (files_size (D.content disk).reading) leased (file_place stores.log)
     (log_shown stores.log).value (meta_shown stores.meta).value (state_map stores.state) e
     (λ r. rose_then _ _ _ c.open_stores.ensures.disk.counts r) (λ told. (told, (tt, tt, tt)))
     (λ needed told le short. record {
@@ -123,7 +138,7 @@ returns-clause-refused g c = if_err_two c.recover.result _ _ _
       map_read = (c.in-Ok-open_stores.ensures.read told).map;
       short = same_short sizes weight (most_run (files_size (D.content disk).reading) 0) needed (D.content c.recover.new.disk).reading le short;
     })
-    (λ told. read_refusal (D.content disk).reading _ _ _ _ (c.in-Ok-open_stores.ensures.read told) (c.in-Ok-open_stores.ensures.place told))
+    (λ told. read_refusal enabled leased (D.content disk).reading _ _ _ _ (c.in-Ok-open_stores.ensures.leased ∙ c.in-Ok.ensures.leased) (c.in-Ok-open_stores.ensures.read told) (c.in-Ok-open_stores.ensures.place told))
     (λ told. lighter (held_weight stores.log stores.meta stores.state) (entries_size entries) more (files_size (D.content disk).reading)
     (c.in-Ok-open_stores.ensures.weight told) (c.in-Ok-open_stores.ensures.entries told) (above_size (state_map stores.state).mark.index entries))
     (subst (λ (k : Kind). IsOpeningFailure rose k.limit refusal e) c.open_stores.ensures.disk.same failure)
@@ -136,8 +151,11 @@ returns-clause-untouched g c = λ e told is.
     let first = c.args.disk.now in
     let mid = c.open_stores.new.disk in
     let stores = c.in-Ok-open_stores.stores in
-    let some = some_refused (refusal_in (D.content first).reading) (opening_refusal (file_place stores.log) (log_shown stores.log).value (meta_shown stores.meta).value (state_map stores.state)) e
-    (read_refusal (D.content first).reading _ _ _ _ (c.in-Ok-open_stores.ensures.read told) (c.in-Ok-open_stores.ensures.place told)) is in
+    let enabled = c.args.config.now.raft.lease.enabled in
+    let leased = (state_settings stores.state).leased in
+    let some = some_refused (refusal_in enabled (D.content first).reading)
+    (opening_refusal leased (file_place stores.log) (log_shown stores.log).value (meta_shown stores.meta).value (state_map stores.state)) e
+    (read_refusal enabled leased (D.content first).reading _ _ _ _ (c.in-Ok-open_stores.ensures.leased ∙ c.in-Ok.ensures.leased) (c.in-Ok-open_stores.ensures.read told) (c.in-Ok-open_stores.ensures.place told)) is in
     subst (λ d. IsUnwritten (D.content first) (D.content d) (NoNewImages (D.images first) (D.images d) (D.moment first) (D.moment d))) (sym (c.recover.ensures.untouched some))
     (record { content = c.open_stores.ensures.spares told; images = c.open_stores.ensures.images told })
 

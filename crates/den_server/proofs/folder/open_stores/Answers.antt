@@ -1,4 +1,4 @@
-use Rattle.std.proofs.Common.{IsTrue, ◌≡◌, ◌≤◌, ◌+◌, ◌*◌, ⊎_elim, Ok, sym, subst, ap, ◌∙◌, arith}
+use Rattle.std.proofs.Common.{IsTrue, is_some, ◌≡◌, ◌≤◌, ◌+◌, ◌*◌, ⊎_elim, Ok, sym, subst, ap, ◌∙◌, arith}
 use Rattle.den_disk.specs.declared.place.Family.TheVariants as family
 use Rattle.den_disk.specs.Place.{place_number}
 use Rattle.den_disk.specs.Files.{Files, Kind}
@@ -7,19 +7,20 @@ use Rattle.den_model.specs.Sizes.{family_size, files_size}
 use Rattle.den_store.specs.FileLog.{log_shown}
 use Rattle.den_store.specs.FileMeta.{meta_shown}
 use Rattle.den_server.specs.declared.folder.Stores.{Stores}
+use Rattle.den_state.specs.Machine.{Settings}
 use Rattle.den_server.specs.Opening.{IsRead, held_weight}
 use Rattle.den_server.proofs.Ended.{rose_then}
 use Rattle.den_server.proofs.Refused.{storage_unread, state_unread, unread_refused}
 use Rattle.den_server.proofs.Settled.{same_reading, settled_or_same, never_settles, settles_now, settles_on}
 use Rattle.den_server.proofs.folder.open_stores.Goals as goal
-use Rattle.den_state.specs.FileState.{state_map}
+use Rattle.den_state.specs.FileState.{state_map, state_settings}
 
 -- ---- why the files are refused
 
 pub returns-in-Err-clause-refused : goal.returns-in-Err-clause-refused
 returns-in-Err-clause-refused g c =
     let reading = (g.D.Disk.content c.args.disk.now).reading in
-    unread_refused _ _ _ _ _ c.in-Err.error (λ r. r) (λ place offset h told. storage_unread reading place offset (h told)) c.in-Err.ensures.refused
+    unread_refused _ _ _ _ _ c.in-Err.error (λ r. r) (λ place offset h told. storage_unread (is_some c.args.lease) reading place offset (h told)) c.in-Err.ensures.refused
 
 pub returns-in-Err-new-clause-refused : goal.returns-in-Err-new-clause-refused
 returns-in-Err-new-clause-refused g c =
@@ -33,7 +34,7 @@ returns-in-Err-new-clause-refused g c =
     (λ place offset h told.
     let same = same_reading (D.content d0) (D.content d1) (c.new.ensures.spares told) in
     let found = h (goes told) in
-    state_unread (D.content d0).reading (log_shown storage.log).value (meta_shown storage.meta).value place offset (c.in-Ok.ensures.log.value told) (c.in-Ok.ensures.meta.value told)
+    state_unread (is_some c.args.lease) (D.content d0).reading (log_shown storage.log).value (meta_shown storage.meta).value place offset (c.in-Ok.ensures.log.value told) (c.in-Ok.ensures.meta.value told)
     (found.0 ∙ ap (λ (f : Files). place_number (slot_of family.State f)) same) (sym (ap map_in same) ∙ found.1))
     c.in-Err-new.ensures.opens.refused
 
@@ -106,3 +107,8 @@ returns-in-Ok-new-clause-settles g c = λ told.
     (settles_now (D.images d1) (D.moment d0) (D.moment d1) _ (D.content d1 ≡ D.content d0) (D.content d0).reading (D.content d1) (c.new.ensures.goes_on.told told).later
     (λ files. g.met.D.Disk.images_now d1 files told1)
     (same_reading (D.content d0) (D.content d1) (c.new.ensures.spares told)) (c.in-Ok.ensures.settled told))
+
+-- ---- leases
+
+pub returns-in-Ok-new-clause-leased : goal.returns-in-Ok-new-clause-leased
+returns-in-Ok-new-clause-leased g c = ap (λ (s : Stores). (state_settings s.state).leased) c.stores_of.ensures ∙ ap (λ (s : Settings). s.leased) c.in-Ok-new.ensures.settings

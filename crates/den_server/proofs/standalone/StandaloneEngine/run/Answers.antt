@@ -1,6 +1,5 @@
-use Rattle.std.proofs.Common.{ℕ, IsTrue, arith, ◌-◌, length, inl, inr, refl, sym, subst, ap, ◌∙◌}
+use Rattle.std.proofs.Common.{ℕ, Option, IsTrue, arith, ◌-◌, length, inl, inr, refl, sym, subst, ap, ◌∙◌}
 use Rattle.std.proofs.lemmas.Result.{on_ok_weaker}
-use Rattle.den_disk.specs.Files.{Kind}
 use Rattle.den_disk.specs.Goes.{Rose, added}
 use Rattle.den_model.specs.Crash.{Tells, Survives, IsServed, bytes_of}
 use Rattle.den_model.specs.Frames.{frames}
@@ -11,7 +10,7 @@ use Rattle.den_model.specs.Sizes.{files_size}
 use Rattle.den_codec.specs.declared.config.RaftNodeConfig.{RaftNodeConfig}
 use Rattle.den_core.specs.Full.{IsFullBy, IsReached, IsStepTooShort}
 use Rattle.den_core.proofs.Weighing.{same_short, short_step}
-use Rattle.den_server.specs.Causes.{IsCatchUpTooShort}
+use Rattle.den_server.specs.Causes.{IsCatchUpTooShort, IsRunRefusal}
 use Rattle.den_model.specs.Log.{Log}
 use Rattle.den_model.specs.Step.{Step}
 use Rattle.den_codec.specs.Standard.{entered}
@@ -24,6 +23,8 @@ use Rattle.den_store.specs.FileMeta.{meta_shown}
 use Rattle.den_state.specs.FileState.{state_map, stored_of}
 use Rattle.den_state.specs.Stored.{nothing_stored, stored_from}
 use Rattle.den_journal.specs.Lies.{gives_hold}
+use Rattle.den_codec.specs.declared.error.Error.{Error}
+use Rattle.den_disk.specs.Files.{Files, Kind}
 use Rattle.den_server.specs.Opening.{refusal_in, held_weight}
 use Rattle.den_server.proofs.Ended.{rose_then, opening_ended, serving_ended, away, refused_not_read, completed}
 use Rattle.den_server.specs.Promises.{IsRunTooShort, run_config}
@@ -34,6 +35,10 @@ use Rattle.den_disk.specs.declared.place.Family.TheVariants.{Snapshot as snapsho
 use Rattle.den_core.proofs.GoesOn.{disk_twice, on_ok_three}
 use Rattle.den_core.proofs.Spared.{spares_twice}
 use Rattle.den_server.proofs.standalone.StandaloneEngine.run.Goals as goal
+
+-- what files are refused for, under a configuration
+abbrev refusal_of : RaftNodeConfig → Files → Option Error
+refusal_of n files = refusal_in n.raft.lease.enabled files
 
 -- ---- the opening was refused
 
@@ -59,15 +64,20 @@ returns-in-Err-clause-refused g c =
     let D = g.D.Disk in
     let L = g.L.Link in
     let first = c.args.disk.now in
-    opening_ended (Rose (D.faults first) (D.faults c.open_folder.new.disk)) (Rose (L.faults c.args.link.now) (L.faults c.args.link.now)) (IsTrue (D.kind first).tells) (refusal_in (D.content first).reading)
-    (λ most needed. IsCatchUpTooShort (D.content first).reading most needed (D.content c.open_folder.new.disk).reading)
+    let short = λ (most needed : ℕ). IsCatchUpTooShort (D.content first).reading most needed (D.content c.open_folder.new.disk).reading in
+    opening_ended (Rose (D.faults first) (D.faults c.open_folder.new.disk)) (Rose (L.faults c.args.link.now) (L.faults c.args.link.now)) (IsTrue (D.kind first).tells) (refusal_of c.args.config.now.node (D.content first).reading)
+    short
     (IsRunTooShort D L g.C.Clock (run_config c.args.config.now.node) first c.open_folder.new.disk c.args.link.now c.args.link.now c.args.clock.now c.args.clock.now)
     (D.kind first).limit (files_size (D.content first).reading) (L.taken c.args.link.now - L.taken c.args.link.now) c.in-Err.error
-    (λ needed le short. inl (record { log = short.log; map = short.map; log_read = short.log_read; map_read = short.map_read; short = same_short _ _ _ needed _ le short.short })) c.in-Err.ensures.refused
+    (λ needed le short. inl (record { log = short.log; map = short.map; log_read = short.log_read; map_read = short.map_read; short = same_short _ _ _ needed _ le short.short }))
+    (subst (λ (n : RaftNodeConfig). IsRunRefusal (Rose (D.faults first) (D.faults c.open_folder.new.disk)) ⊥ (IsTrue (D.kind first).tells) (refusal_of n (D.content first).reading) short
+    (D.kind first).limit (files_size (D.content first).reading) 0 c.in-Err.error) c.node.ensures c.in-Err.ensures.refused)
 
 pub returns-in-Err-clause-turned_away : goal.returns-in-Err-clause-turned_away
 returns-in-Err-clause-turned_away g c = λ e told is.
-    ((record {}, away _ _ (refusal_in (g.D.Disk.content c.args.disk.now).reading) _ _ _ e c.in-Err.error told is c.in-Err.ensures.refused), c.open_folder.ensures.untouched e told is, refl, refl)
+    let reading = (g.D.Disk.content c.args.disk.now).reading in
+    let here = ap (λ (n : RaftNodeConfig). refusal_of n reading) c.node.ensures ∙ is in
+    ((record {}, away _ _ (refusal_of c.node.result.now reading) _ _ _ e c.in-Err.error told here c.in-Err.ensures.refused), c.open_folder.ensures.untouched e told here, refl, refl)
 
 pub returns-in-Err-clause-goes_on : goal.returns-in-Err-clause-goes_on
 returns-in-Err-clause-goes_on g c =
@@ -140,7 +150,7 @@ returns-clause-refused g c = if_err_two c.run_from.result _ _ _
     let begun : Kv → Log → Step → Type 0 = λ k log next. Tells (D.kind c.open_folder.new.disk).tells (L.tells c.args.link.now) (g.C.Clock.tells c.run_from.new.clock)
     → IsReached kv (log_shown engine.log).value (plan_over kv c.node-2.result.now.network.max_frame_size (L.left c.args.link.now) readings) sent k log next in
     let slot : ℕ → Type 0 = λ needed. IsStepTooShort begun engine.most (run_weight weight taken) needed files in
-    serving_ended rose _ link_rose (IsTrue (D.kind c.args.disk.now).tells) _ (refusal_in (D.content c.args.disk.now).reading) slot
+    serving_ended rose _ link_rose (IsTrue (D.kind c.args.disk.now).tells) _ (refusal_of c.args.config.now.node (D.content c.args.disk.now).reading) slot
     (IsRunTooShort D L g.C.Clock (run_config c.args.config.now.node) c.args.disk.now c.run_from.new.disk c.args.link.now c.run_from.new.link c.args.clock.now c.run_from.new.clock)
     (D.kind c.args.disk.now).limit weight (files_size (D.content c.args.disk.now).reading) taken e
     (λ r. rose_then _ _ _ c.open_folder.ensures.disk.counts r) (λ told. (told, (tt, tt, tt)))
@@ -153,20 +163,22 @@ returns-clause-refused g c = if_err_two c.run_from.result _ _ _
     (subst (λ (n : RaftNodeConfig). IsReached kv (log_shown engine.log).value (plan_over kv n.network.max_frame_size (L.left c.args.link.now) readings) sent k log next) c.node-2.ensures
     (reached (record { disk_tells = opened_tells; link_tells = tells.link_tells; clock_tells = tells.clock_tells }))))
     (c.in-Ok.ensures.most ∙ ap (λ (n : RaftNodeConfig). n.raft.max_log_entries) c.node.ensures) le short))
-    (λ told. c.in-Ok.ensures.accepted told) (λ told. c.in-Ok.ensures.weight told)
+    (λ told. sym (ap (λ (n : RaftNodeConfig). refusal_of n (D.content c.args.disk.now).reading) c.node.ensures) ∙ c.in-Ok.ensures.accepted told) (λ told. c.in-Ok.ensures.weight told)
     (subst (λ (k : Kind). IsServeRefusal rose link_rose k.limit e) c.open_folder.ensures.disk.same h)
     (subst (λ (k : Kind). IsFullBy (IsTrue k.tells × (Unit {0} × Unit {0} × Unit {0})) slot k.limit (run_weight weight taken) e) c.open_folder.ensures.disk.same full))
     c.run_from.ensures.serves.refused c.run_from.ensures.serves.full
 
 pub returns-clause-turned_away : goal.returns-clause-turned_away
-returns-clause-turned_away g c = λ e told is. absurd (refused_not_read (refusal_in (g.D.Disk.content c.args.disk.now).reading) e (c.in-Ok.ensures.accepted told) is)
+returns-clause-turned_away g c = λ e told is.
+    let reading = (g.D.Disk.content c.args.disk.now).reading in
+    absurd (refused_not_read (refusal_of c.node.result.now reading) e (c.in-Ok.ensures.accepted told) (ap (λ (n : RaftNodeConfig). refusal_of n reading) c.node.ensures ∙ is))
 
 pub returns-clause-complete : goal.returns-clause-complete
 returns-clause-complete g c = λ told link_tells unrefused disk link small.
     let D = g.D.Disk in
     let L = g.L.Link in
     let first = c.args.disk.now in
-    completed (Rose (D.faults first) (D.faults c.run_from.new.disk)) (Rose (L.faults c.args.link.now) (L.faults c.run_from.new.link)) (IsTrue (D.kind first).tells) (refusal_in (D.content first).reading)
+    completed (Rose (D.faults first) (D.faults c.run_from.new.disk)) (Rose (L.faults c.args.link.now) (L.faults c.run_from.new.link)) (IsTrue (D.kind first).tells) (refusal_of c.args.config.now.node (D.content first).reading)
     (IsRunTooShort D L g.C.Clock (run_config c.args.config.now.node) first c.run_from.new.disk c.args.link.now c.run_from.new.link c.args.clock.now c.run_from.new.clock)
     (D.kind first).limit (files_size (D.content first).reading) (L.taken c.run_from.new.link - L.taken c.args.link.now) (length (L.left c.args.link.now)) c.run_from.result told unrefused disk link
     (omega (arith, c.run_from.ensures.counted link_tells)) small (returns-clause-refused g c)
@@ -186,7 +198,7 @@ returns-clause-short g c = on_ok_weaker c.run_from.result (λ short told.
     let last = c.run_from.new.disk in
     let opened_tells : IsTrue (D.kind c.open_folder.new.disk).tells = subst (λ (k : Kind). IsTrue k.tells) (sym c.open_folder.ensures.disk.same) told in
     subst (λ n. GivesShortLog (λ files. ok (log_in files)) (D.images last) (D.moment last) n) (c.in-Ok.ensures.most ∙ ap (λ (n : RaftNodeConfig). n.raft.max_log_entries) c.node.ensures)
-    (short opened_tells (tt, tt, tt))) c.run_from.ensures.short
+    (short c.in-Ok.ensures.leads opened_tells (tt, tt, tt))) c.run_from.ensures.short
 
 pub returns-clause-state_short : goal.returns-clause-state_short
 returns-clause-state_short g c = on_ok_three c.run_from.result (λ short ready rests told files at.
@@ -197,5 +209,5 @@ returns-clause-state_short g c = on_ok_three c.run_from.result (λ short ready r
     let last_tells : IsTrue (D.kind last).tells = subst (λ (k : Kind). IsTrue k.tells) (sym c.run_from.ensures.serves.goes_on.same) opened_tells in (
       stored_of state,
       gives_hold State (stored_from nothing_stored) state.journal.gate (stored_of state) (D.content last) files (rests opened_tells).state.rests ((g.met.D.Disk.images_now last files last_tells).0 at),
-      short,
+      short c.in-Ok.ensures.leads,
     )) c.run_from.ensures.state_short c.run_from.ensures.serves.ready c.run_from.ensures.serves.rests
