@@ -1,5 +1,5 @@
 -- The default configuration, as a run takes it.
-use Rattle.std.proofs.Common.{◌≡◌, pos, false, None, subst}
+use Rattle.std.proofs.Common.{◌≡◌, pos, Some, None, subst}
 use Rattle.den_codec.specs.Standard.{IsStandard}
 use Rattle.den_codec.specs.declared.config.RaftNodeConfig.{RaftNodeConfig}
 use Rattle.den_model.specs.Kv.{running_at_entry}
@@ -8,7 +8,7 @@ use Rattle.den_program.specs.Serving.{standard_run}
 
 is_standard_run : (node : RaftNodeConfig) → IsStandard node → run_config node ≡ standard_run
 is_standard_run node is = λ i. record {
-  running = running_at_entry (record { role = pos 2; hint = None; lease = false; interval = is.interval i; maximum = is.watchers i; buffer = is.buffer i }) (is.nodes i) (is.node_id i);
+  running = running_at_entry (record { role = pos 2; hint = None; lease = is.lease i; interval = is.interval i; maximum = is.watchers i; buffer = is.buffer i }) (is.nodes i) (Some (is.node_id i));
   frame_limit = is.frame i;
   max_log_entries = is.entries i;
 }

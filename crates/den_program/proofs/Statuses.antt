@@ -21,6 +21,7 @@ module _ (disk_rose link_rose told : Type 0) (refusal : Option Error) (short : (
   error_status error.ProposeFailed h = record { known = refl; storage = λ e. absurd (cc e); link = λ e. absurd (cc e); disk = λ e. absurd (cc e); corrupt = λ e. absurd (cc e); lease = λ e. absurd (cc e); exhausted = λ e t. h t }
   error_status (error.UnorderedChunk index) h = absurd h
   error_status (error.Config place) h = absurd h
+  error_status error.ConfigFault h = absurd h
   error_status error.StateMachineError h = absurd h
 
   pub has_status : (r : Option (Result (Unit {0}) Error)) → (r ≡ None → ⊥) → IfSome r (λ a. IfErr a (IsRunRefusal disk_rose link_rose told refusal short most held taken))
@@ -41,6 +42,7 @@ module _ (disk_rose link_rose told : Type 0) (refusal : Option Error) (short : (
   names_error error.ProposeFailed h = (0, 0, (λ t is. absurd (cc is)), refl)
   names_error (error.UnorderedChunk index) h = absurd h
   names_error (error.Config place) h = absurd h
+  names_error error.ConfigFault h = absurd h
   names_error error.StateMachineError h = absurd h
 
   names : (r : Option (Result (Unit {0}) Error)) → IfSome r (λ a. IfErr a (IsRunRefusal disk_rose link_rose told refusal short most held taken)) → (place : ℕ) × (offset : ℕ)
@@ -69,6 +71,7 @@ error_not_0 error.FeatureNotEnabled is = cc is
 error_not_0 error.ProposeFailed is = cc is
 error_not_0 (error.UnorderedChunk index) is = cc is
 error_not_0 (error.Config place) is = cc is
+error_not_0 error.ConfigFault is = cc is
 error_not_0 error.StateMachineError is = cc is
 
 error_not_2 : (e : Error) → status_of_error e ≡ 2 → ⊥
@@ -81,6 +84,7 @@ error_not_2 error.FeatureNotEnabled is = cc is
 error_not_2 error.ProposeFailed is = cc is
 error_not_2 (error.UnorderedChunk index) is = cc is
 error_not_2 (error.Config place) is = cc is
+error_not_2 error.ConfigFault is = cc is
 error_not_2 error.StateMachineError is = cc is
 
 -- what is said of an answer of Ok, where it is one

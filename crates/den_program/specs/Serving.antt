@@ -11,15 +11,14 @@ use Rattle.den_model.specs.Kv.{running_at_entry}
 use Rattle.den_model.specs.Sizes.{files_size}
 use Rattle.den_codec.specs.Standard.{standard_nodes}
 use Rattle.den_server.specs.Causes.{IsFull}
-use Rattle.den_server.specs.Opening.{refusal_in}
-use Rattle.den_server.specs.Promises.{IsRunTooShort, RunConfig}
+use Rattle.den_server.specs.Promises.{IsRunTooShort, RunConfig, refused_for}
 use Rattle.den_program.specs.Status.{status_line}
 
 abbrev pub standard_setting : Setting
 standard_setting = record { role = pos 2; hint = None; lease = false; interval = 1000; maximum = 1000; buffer = 64 }
 
 abbrev pub standard_run : RunConfig
-standard_run = record { running = running_at_entry standard_setting standard_nodes 1; frame_limit = 16777216; max_log_entries = 1000 }
+standard_run = record { running = running_at_entry standard_setting standard_nodes (Some 1); frame_limit = 16777216; max_log_entries = 1000 }
 
 abbrev pub is_status : ℕ → Bool
 is_status n = n == 0 || n == 1 || n == 5 || n == 6 || n == 7 || n == 8 || n == 9 || n == 10
@@ -43,7 +42,7 @@ pub record HasStatus (disk_rose link_rose told : Type 0) (refusal : Option Error
 
 -- the same, of what serving is lent
 abbrev pub EndsWith : {D L C : Type 0} (disk : Disks D) (link : Links L) (clock : Clocks C) (config : RunConfig) (old new : D) (from to : L) (before after : C) (status : ℕ) → Type 0
-EndsWith disk link clock config old new from to before after status = HasStatus (Rose (disk.faults old) (disk.faults new)) (Rose (link.faults from) (link.faults to)) (IsTrue (disk.kind old).tells) (refusal_in (disk.content old).reading)
+EndsWith disk link clock config old new from to before after status = HasStatus (Rose (disk.faults old) (disk.faults new)) (Rose (link.faults from) (link.faults to)) (IsTrue (disk.kind old).tells) (refused_for config (disk.content old).reading)
     (IsRunTooShort disk link clock config old new from to before after) (disk.kind old).limit (files_size (disk.content old).reading) (link.taken to - link.taken from) status
 
 -- the statuses of serving files that are refused: that of the refusal, want of memory, or a fault of the disk

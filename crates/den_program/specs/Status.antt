@@ -2,7 +2,7 @@
 use Rattle.std.specs.Prelude.{◌≡◌, ◌++◌, ◌==◌, ℕ, List, [], codes, decimal, Option, Some, None, Result, Ok, Err, if◌then◌else◌}
 use Rattle.den_disk.specs.Goes.{IsPrefix}
 use Rattle.den_codec.specs.declared.error.Error.{Error}
-use Rattle.den_codec.specs.declared.error.Error.TheVariants.{OutOfMemory, StorageIoError, DiskFull, LinkFault, DataCorruption, FeatureNotEnabled, ProposeFailed, UnorderedChunk, Config, StateMachineError}
+use Rattle.den_codec.specs.declared.error.Error.TheVariants.{OutOfMemory, StorageIoError, DiskFull, LinkFault, DataCorruption, FeatureNotEnabled, ProposeFailed, UnorderedChunk, Config, ConfigFault, StateMachineError}
 
 abbrev pub status_of_error : Error → ℕ
 status_of_error OutOfMemory = 1
@@ -14,6 +14,7 @@ status_of_error FeatureNotEnabled = 9
 status_of_error ProposeFailed = 10
 status_of_error (UnorderedChunk index) = 1
 status_of_error (Config place) = 1
+status_of_error ConfigFault = 1
 status_of_error StateMachineError = 1
 
 -- the status of a run's answer, or of words that do not parse
@@ -58,6 +59,7 @@ line_of_error FeatureNotEnabled = codes "den_server: lease is not enabled\n"
 line_of_error ProposeFailed = codes "den_server: term or index exhausted\n"
 line_of_error (UnorderedChunk index) = codes "den_server: out of memory\n"
 line_of_error (Config place) = codes "den_server: out of memory\n"
+line_of_error ConfigFault = codes "den_server: out of memory\n"
 line_of_error StateMachineError = codes "den_server: out of memory\n"
 
 -- the line of a run's answer, or of words that do not parse; empty where all went well
@@ -90,6 +92,7 @@ IsFixed FeatureNotEnabled = Unit {0}
 IsFixed ProposeFailed = Unit {0}
 IsFixed (UnorderedChunk index) = Unit {0}
 IsFixed (Config place) = Unit {0}
+IsFixed ConfigFault = Unit {0}
 IsFixed StateMachineError = Unit {0}
 
 -- a front of the line joined what was written

@@ -4,8 +4,7 @@ ghost use Rattle.den_disk.specs.Goes.{Rose, SinkGoesOn};
 ghost use Rattle.den_codec.specs.declared.error.Error.TheVariants.{OutOfMemory};
 ghost use Rattle.den_codec.specs.Standard.{IsStandard};
 ghost use Rattle.den_server.specs.Causes.{IsTurnedAway};
-ghost use Rattle.den_server.specs.Opening.{refusal_in};
-ghost use Rattle.den_server.specs.Promises.{Served, KeepsLogShort, KeepsTailShort, SendsPrefix, SurvivesCrash, SurvivesPending, EndsEarly, TurnsAway, Completes, AllGoOn};
+ghost use Rattle.den_server.specs.Promises.{Served, KeepsLogShort, KeepsTailShort, SendsPrefix, SurvivesCrash, SurvivesPending, EndsEarly, TurnsAway, Completes, AllGoOn, refused_for};
 ghost use Rattle.den_program.specs.Serving.{standard_run, EndsWith, IsRefusedStatus, IsLine, IsLineFront};
 ghost use Rattle.den_program.specs.Status.{status_of_error};
 ghost use Rattle.den_program.specs.Words.{folder_in};
@@ -44,8 +43,8 @@ fn serve_words<D: Disk, L: Link, C: Clock>(
     ensures any_moment { SurvivesCrash D.Disk L.Link C.Clock standard_run disk.old disk.new link.old link.new clock.old clock.new }
     ensures opening { SurvivesPending D.Disk L.Link C.Clock standard_run disk.old disk.new link.old link.new clock.old clock.new (result ≡ Some (Ok tt)) }
     ensures refused { IfSome result (λ answer. IfErr answer (EndsEarly D.Disk L.Link C.Clock standard_run disk.old disk.new link.old link.new clock.old clock.new)) }
-    ensures turned_away { (result ≡ None → ⊥) → TurnsAway D.Disk (λ e. IfSome result (IsTurnedAway e)) disk.old disk.new link.old link.new clock.old clock.new }
-    ensures complete { (result ≡ None → ⊥) → Completes D.Disk L.Link disk.old disk.new link.old link.new (result ≡ Some (Ok tt)) (result ≡ Some (Err OutOfMemory)) }
+    ensures turned_away { (result ≡ None → ⊥) → TurnsAway D.Disk standard_run (λ e. IfSome result (IsTurnedAway e)) disk.old disk.new link.old link.new clock.old clock.new }
+    ensures complete { (result ≡ None → ⊥) → Completes D.Disk L.Link standard_run disk.old disk.new link.old link.new (result ≡ Some (Ok tt)) (result ≡ Some (Err OutOfMemory)) }
     ensures goes_on { AllGoOn D.Disk L.Link C.Clock disk.old disk.new link.old link.new clock.old clock.new }
     ensures usage { (folder_in (map string_bytes words.now) ≡ None) ↔ (result ≡ None) }
     ensures untouched { result ≡ None → (disk.new ≡ disk.old) × (link.new ≡ link.old) × (clock.new ≡ clock.old) }
@@ -104,10 +103,10 @@ pub fn serve_main<D: Disk, L: Link, C: Clock, S: Source, E: Sink>(
     ensures status { (result ≡ 2 → ⊥) → EndsWith D.Disk L.Link C.Clock standard_run disk.old disk.new link.old link.new clock.old clock.new result }
 
     // Files that are to be refused are: nothing is written, read, sent or timed.
-    ensures turned_away { (result ≡ 2 → ⊥) → TurnsAway D.Disk (λ e. IsRefusedStatus (status_of_error e) result) disk.old disk.new link.old link.new clock.old clock.new }
+    ensures turned_away { (result ≡ 2 → ⊥) → TurnsAway D.Disk standard_run (λ e. IsRefusedStatus (status_of_error e) result) disk.old disk.new link.old link.new clock.old clock.new }
 
     // Files that are not refused and an input, neither of them much, are served, but for faults and want of memory.
-    ensures complete { (result ≡ 2 → ⊥) → Completes D.Disk L.Link disk.old disk.new link.old link.new (result ≡ 0) (result ≡ 1) }
+    ensures complete { (result ≡ 2 → ⊥) → Completes D.Disk L.Link standard_run disk.old disk.new link.old link.new (result ≡ 0) (result ≡ 1) }
 
     // Disk, link and clock go on as over any call; the files of the snapshot stay as they are, and a crash leaves them as it
     // could at entry.
@@ -116,9 +115,9 @@ pub fn serve_main<D: Disk, L: Link, C: Clock, S: Source, E: Sink>(
     // Exactly the status's line was written where the count of the sink did not rise, else a front of it.
     ensures errs { SinkGoesOn E.tells E.written E.faults errs.old errs.new }
     ensures line { IsTrue (E.tells errs.old) → (Rose (E.faults errs.old) (E.faults errs.new) → ⊥)
-        → IsLine (IsTrue (D.kind disk.old).tells) (refusal_in (D.content disk.old).reading) result (E.written errs.old) (E.written errs.new) }
+        → IsLine (IsTrue (D.kind disk.old).tells) (refused_for standard_run (D.content disk.old).reading) result (E.written errs.old) (E.written errs.new) }
     ensures line_front { IsTrue (E.tells errs.old)
-        → IsLineFront (IsTrue (D.kind disk.old).tells) (refusal_in (D.content disk.old).reading) result (E.written errs.old) (E.written errs.new) }
+        → IsLineFront (IsTrue (D.kind disk.old).tells) (refused_for standard_run (D.content disk.old).reading) result (E.written errs.old) (E.written errs.new) }
 {
     let answer = serve_words(alloc, words, disk, link, clock);
     tell(errs, answer);

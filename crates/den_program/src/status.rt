@@ -1,6 +1,6 @@
 //! The exit status, and the line that goes with it.
-ghost use Rattle.std.specs.Prelude.{◌≡◌, ◌++◌, ◌<◌, ℕ, List, IsTrue, IsErr, OnOk, length};
-ghost use Rattle.den_disk.specs.Goes.{Rose, HasCause, IsPrefix, SinkGoesOn};
+ghost use Rattle.std.specs.Prelude.{◌≡◌, ◌++◌, ◌<◌, IsTrue, IsErr, OnOk, length};
+ghost use Rattle.den_disk.specs.Goes.{Rose, HasCause, SinkGoesOn};
 ghost use Rattle.den_program.specs.Status.{status_of, status_of_error, file_name, corruption_front, corruption_end, corruption_line, line_of, line_of_error, IsFixed, IsWrittenFront};
 
 use den_codec::Error;
@@ -24,7 +24,10 @@ fn status_of_error(error: Error) -> u8
         Error::DataCorruption { .. } => 8,
         Error::FeatureNotEnabled => 9,
         Error::ProposeFailed => 10,
-        Error::UnorderedChunk { .. } | Error::Config(_) | Error::StateMachineError => 1,
+        Error::UnorderedChunk { .. }
+        | Error::Config(_)
+        | Error::ConfigFault
+        | Error::StateMachineError => 1,
     }
 }
 
@@ -76,6 +79,7 @@ fn fixed_line(error: Error) -> &'static str
         | Error::DataCorruption { .. }
         | Error::UnorderedChunk { .. }
         | Error::Config(_)
+        | Error::ConfigFault
         | Error::StateMachineError => "den_server: out of memory\n",
     }
 }

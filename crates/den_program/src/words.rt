@@ -1,5 +1,5 @@
 //! The program's words.
-ghost use Rattle.std.specs.Prelude.{◌≡◌, IfOk, is_some, map, option_map, string_bytes};
+ghost use Rattle.std.specs.Prelude.{◌≡◌, IfOk, map, option_map, string_bytes};
 ghost use Rattle.den_program.specs.Words.{is_option, folder_in};
 
 use std::alloc::{AllocError, Global};

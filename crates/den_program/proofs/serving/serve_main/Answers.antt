@@ -1,8 +1,7 @@
 use Rattle.std.proofs.Common.{◌≡◌, ◌-◌, ℕ, IsTrue, None, sym, subst, ◌∙◌}
 use Rattle.den_disk.specs.Goes.{Rose}
 use Rattle.den_model.specs.Sizes.{files_size}
-use Rattle.den_server.specs.Opening.{refusal_in}
-use Rattle.den_server.specs.Promises.{IsRunTooShort}
+use Rattle.den_server.specs.Promises.{IsRunTooShort, refused_for}
 use Rattle.den_server.proofs.Promised.{less_known}
 use Rattle.den_program.specs.Serving.{standard_run, EndsWith, IsRefusedStatus, IsLine, IsLineFront}
 use Rattle.den_program.specs.Status.{status_of_error}
@@ -28,7 +27,7 @@ returns-clause-status g c = λ some.
     let answer = c.serve_words-answer.result in
     subst (EndsWith D L g.C.Clock standard_run disk c.serve_words-answer.new.disk c.args.link.now c.serve_words-answer.new.link c.args.clock.now c.serve_words-answer.new.clock) (sym c.status_of.ensures)
     (has_status (Rose (D.faults disk) (D.faults c.serve_words-answer.new.disk)) (Rose (L.faults c.args.link.now) (L.faults c.serve_words-answer.new.link)) (IsTrue (D.kind disk).tells)
-    (refusal_in (D.content disk).reading) (IsRunTooShort D L g.C.Clock standard_run disk c.serve_words-answer.new.disk c.args.link.now c.serve_words-answer.new.link c.args.clock.now c.serve_words-answer.new.clock) (D.kind disk).limit (files_size (D.content disk).reading) (L.taken c.serve_words-answer.new.link - L.taken c.args.link.now) answer
+    (refused_for standard_run (D.content disk).reading) (IsRunTooShort D L g.C.Clock standard_run disk c.serve_words-answer.new.disk c.args.link.now c.serve_words-answer.new.link c.args.clock.now c.serve_words-answer.new.clock) (D.kind disk).limit (files_size (D.content disk).reading) (L.taken c.serve_words-answer.new.link - L.taken c.args.link.now) answer
     (λ none. some (c.status_of.ensures ∙ two_at_none answer none)) c.serve_words-answer.ensures.refused)
 
 pub returns-clause-turned_away : goal.returns-clause-turned_away
@@ -44,7 +43,7 @@ returns-clause-line g c = λ told quiet.
     let L = g.L.Link in
     let E = g.E.Sink in
     let disk = c.args.disk.now in
-    let refusal = refusal_in (D.content disk).reading in
+    let refusal = refused_for standard_run (D.content disk).reading in
     subst (λ (n : ℕ). IsLine (IsTrue (D.kind disk).tells) refusal n (E.written c.args.errs.now) (E.written c.tell.new.errs)) (sym c.status_of.ensures)
     (line_is (Rose (D.faults disk) (D.faults c.serve_words-answer.new.disk)) (Rose (L.faults c.args.link.now) (L.faults c.serve_words-answer.new.link)) (IsTrue (D.kind disk).tells) refusal
     (IsRunTooShort D L g.C.Clock standard_run disk c.serve_words-answer.new.disk c.args.link.now c.serve_words-answer.new.link c.args.clock.now c.serve_words-answer.new.clock) (D.kind disk).limit (files_size (D.content disk).reading) (L.taken c.serve_words-answer.new.link - L.taken c.args.link.now) c.serve_words-answer.result _ _ c.serve_words-answer.ensures.refused (c.tell.ensures.line told quiet))
@@ -55,7 +54,7 @@ returns-clause-line_front g c = λ told.
     let L = g.L.Link in
     let E = g.E.Sink in
     let disk = c.args.disk.now in
-    let refusal = refusal_in (D.content disk).reading in
+    let refusal = refused_for standard_run (D.content disk).reading in
     subst (λ (n : ℕ). IsLineFront (IsTrue (D.kind disk).tells) refusal n (E.written c.args.errs.now) (E.written c.tell.new.errs)) (sym c.status_of.ensures)
     (front_is (Rose (D.faults disk) (D.faults c.serve_words-answer.new.disk)) (Rose (L.faults c.args.link.now) (L.faults c.serve_words-answer.new.link)) (IsTrue (D.kind disk).tells) refusal
     (IsRunTooShort D L g.C.Clock standard_run disk c.serve_words-answer.new.disk c.args.link.now c.serve_words-answer.new.link c.args.clock.now c.serve_words-answer.new.clock) (D.kind disk).limit (files_size (D.content disk).reading) (L.taken c.serve_words-answer.new.link - L.taken c.args.link.now) c.serve_words-answer.result _ _ c.serve_words-answer.ensures.refused (c.tell.ensures.front told))

@@ -1,5 +1,7 @@
-use Rattle.std.proofs.Common.{IsOk, IfErr}
-use Rattle.den_server.specs.Promises.{EndsEarly, Served, KeepsLogShort, KeepsTailShort, SendsPrefix, SurvivesCrash, SurvivesPending}
+use Rattle.std.proofs.Common.{◌≡◌, Some, Ok, Err, IsOk, IfErr, inl, inr, ⊎_elim, ap}
+use Rattle.den_codec.specs.declared.error.Error.TheVariants.{OutOfMemory}
+use Rattle.den_server.specs.Causes.{IsTurnedAway}
+use Rattle.den_server.specs.Promises.{Completes, EndsEarly, Served, TurnsAway, KeepsLogShort, KeepsTailShort, SendsPrefix, SurvivesCrash, SurvivesPending}
 use Rattle.den_server.proofs.Promised.{survives_all_along, no_call_survives, no_call_goes_on, less_known}
 use Rattle.den_program.specs.Serving.{standard_run}
 use Rattle.den_program.proofs.Served.{under_standard}
@@ -57,7 +59,14 @@ returns-clause-opening g c =
     c.in-Ok.config.node c.in-Ok.ensures.standard c.run.ensures.opening)
 
 pub returns-clause-turned_away : goal.returns-clause-turned_away
-returns-clause-turned_away g c = λ some e told is. c.run.ensures.turned_away e told is
+returns-clause-turned_away g c = λ some.
+    under_standard (λ config. TurnsAway g.D.Disk config (λ e. IsTurnedAway e c.run.result) c.args.disk.now c.run.new.disk c.args.link.now c.run.new.link c.args.clock.now c.run.new.clock)
+    c.in-Ok.config.node c.in-Ok.ensures.standard c.run.ensures.turned_away
+
+pub returns-clause-complete : goal.returns-clause-complete
+returns-clause-complete g c = λ some told link_tells unrefused disk link small. ⊎_elim (λ ok. inl (ap Some ok)) (λ memory. inr (ap Some memory))
+    (under_standard (λ config. Completes g.D.Disk g.L.Link config c.args.disk.now c.run.new.disk c.args.link.now c.run.new.link (c.run.result ≡ Ok tt) (c.run.result ≡ Err OutOfMemory))
+    c.in-Ok.config.node c.in-Ok.ensures.standard c.run.ensures.complete told link_tells unrefused disk link small)
 
 pub returns-clause-refused : goal.returns-clause-refused
 returns-clause-refused g c = under_standard (λ config. IfErr c.run.result (EndsEarly g.D.Disk g.L.Link g.C.Clock config c.args.disk.now c.run.new.disk c.args.link.now c.run.new.link c.args.clock.now c.run.new.clock))
