@@ -3,6 +3,10 @@
 #![tactic(auto)]
 
 #[cfg(test)]
+mod config;
+#[cfg(test)]
+mod configured;
+#[cfg(test)]
 mod disk;
 #[cfg(test)]
 mod gate;
@@ -11,7 +15,11 @@ mod install;
 #[cfg(test)]
 mod lease;
 #[cfg(test)]
+mod leased;
+#[cfg(test)]
 mod one_word;
+#[cfg(test)]
+mod requests;
 #[cfg(test)]
 mod server;
 #[cfg(test)]

@@ -10,14 +10,15 @@ use std::alloc::Global;
 use std::test::Fail;
 
 // A put of a = b, and a read of a.
-const PUT: &[u8] =
+pub(crate) const PUT: &[u8] =
     b"\0\0\0\0\0\0\0\x20\x01\0\0\0\x01\x01\0\0\0\0\0\0\0\x01a\0\0\0\0\0\0\0\x01b\0\0\0\0\0\0\0\0";
 
-const READ: &[u8] = b"\0\0\0\0\0\0\0\x17\x02\0\0\0\x01\0\0\0\0\0\0\0\0\x01\0\0\0\0\0\0\0\x01a";
+pub(crate) const READ: &[u8] =
+    b"\0\0\0\0\0\0\0\x17\x02\0\0\0\x01\0\0\0\0\0\0\0\0\x01\0\0\0\0\0\0\0\x01a";
 // Their replies.
-const WRITTEN: &[u8] = b"\0\0\0\0\0\0\0\x06\x01\0\0\0\x01\x01";
+pub(crate) const WRITTEN: &[u8] = b"\0\0\0\0\0\0\0\x06\x01\0\0\0\x01\x01";
 
-const PAIR: &[u8] =
+pub(crate) const PAIR: &[u8] =
     b"\0\0\0\0\0\0\0\x1f\x01\0\0\0\x02\0\0\0\0\0\0\0\x01\0\0\0\0\0\0\0\x01a\0\0\0\0\0\0\0\x01b";
 // A put of the empty value at a, and its reading.
 const PUT_EMPTY: &[u8] =
@@ -26,7 +27,7 @@ const PUT_EMPTY: &[u8] =
 const EMPTY_PAIR: &[u8] =
     b"\0\0\0\0\0\0\0\x1e\x01\0\0\0\x02\0\0\0\0\0\0\0\x01\0\0\0\0\0\0\0\x01a\0\0\0\0\0\0\0\0";
 // A put of a = c, and its reading.
-const PUT_C: &[u8] =
+pub(crate) const PUT_C: &[u8] =
     b"\0\0\0\0\0\0\0\x20\x01\0\0\0\x01\x01\0\0\0\0\0\0\0\x01a\0\0\0\0\0\0\0\x01c\0\0\0\0\0\0\0\0";
 
 const PAIR_C: &[u8] =
@@ -34,14 +35,17 @@ const PAIR_C: &[u8] =
 // A delete of a, and the answer to a read of a key that is not held.
 const DELETE: &[u8] = b"\0\0\0\0\0\0\0\x0f\x01\0\0\0\x01\x02\0\0\0\0\0\0\0\x01a";
 
-const NO_PAIR: &[u8] = b"\0\0\0\0\0\0\0\x0d\x01\0\0\0\x02\0\0\0\0\0\0\0\0";
-// What is answered where a request is not carried out.
-const NOT_BUILT: &[u8] = b"\0\0\0\0\0\0\0\x02\x06\xff";
+pub(crate) const NO_PAIR: &[u8] = b"\0\0\0\0\0\0\0\x0d\x01\0\0\0\x02\0\0\0\0\0\0\0\0";
+// What is answered where a lease is asked for and none is configured, and where nothing is found under any prefix at
+// revision 1.
+const NO_LEASE: &[u8] = b"\0\0\0\0\0\0\0\x02\x06\x03";
+
+const NOTHING_SCANNED: &[u8] = b"\0\0\0\0\0\0\0\x11\x02\0\0\0\0\0\0\0\x01\0\0\0\0\0\0\0\0";
 // A put with a time to live, and a scan of everything.
 const PUT_WITH_TTL: &[u8] =
     b"\0\0\0\0\0\0\0\x20\x01\0\0\0\x01\x01\0\0\0\0\0\0\0\x01a\0\0\0\0\0\0\0\x01b\0\0\0\0\0\0\0\x05";
 
-const SCAN: &[u8] = b"\0\0\0\0\0\0\0\x0d\x03\0\0\0\x01\0\0\0\0\0\0\0\0";
+pub(crate) const SCAN: &[u8] = b"\0\0\0\0\0\0\0\x0d\x03\0\0\0\x01\0\0\0\0\0\0\0\0";
 // The open regions of log, hard state and state: of the first term and its entry without effect, then of the put.
 const LOG_OF_NOOP: &[u8] =
     b"\x01\0\0\0\0\0\0\0\x22\x01\0\0\0\0\0\0\0\x01\0\0\0\0\0\0\0\x01\0\0\0\0\0\0\0\x01\0\0\0\0\0\0\x03\xe8\0";
@@ -79,23 +83,24 @@ const LOG_OF_EMPTY: &[u8] =
 const STATE_OF_EMPTY: &[u8] =
     b"\x01\0\0\0\0\0\0\0\x33\x03\0\0\0\0\0\0\0\x01\0\0\0\0\0\0\0\x02\0\0\0\0\0\0\0\x01\x01\0\0\0\0\0\0\0\x01a\0\0\0\0\0\0\0\0\0\0\0\0\0\0\0\0";
 
-const LOG: Place = Place {
+pub(crate) const LOG: Place = Place {
     family: Family::Log,
     part: Part::A,
 };
 
-const STATE: Place = Place {
+pub(crate) const STATE: Place = Place {
     family: Family::State,
     part: Part::A,
 };
 
 // How a run ends.
 #[derive(Clone, Copy, PartialEq, Eq)]
-enum Ending {
+pub(crate) enum Ending {
     Well,
     LinkFault,
     StorageIoError,
     FeatureNotEnabled,
+    ProposeFailed,
     Otherwise,
 }
 
@@ -131,17 +136,18 @@ const WITH_PUT: Files = Files {
     state: &[STATE_OF_NOOP, STATE_OF_PUT],
 };
 
-fn ending_of(answer: &Result<(), Error>) -> Ending {
+pub(crate) fn ending_of(answer: &Result<(), Error>) -> Ending {
     match answer {
         Ok(()) => Ending::Well,
         Err(Error::LinkFault) => Ending::LinkFault,
         Err(Error::StorageIoError) => Ending::StorageIoError,
         Err(Error::FeatureNotEnabled) => Ending::FeatureNotEnabled,
+        Err(Error::ProposeFailed) => Ending::ProposeFailed,
         Err(_) => Ending::Otherwise,
     }
 }
 
-fn run_by<D: Disk, L: Link, C: Clock>(
+pub(crate) fn run_by<D: Disk, L: Link, C: Clock>(
     alloc: Global,
     disk: &mut D,
     link: &mut L,
@@ -153,13 +159,17 @@ fn run_by<D: Disk, L: Link, C: Clock>(
 }
 
 // A run with the default configuration and a clock that stands at 1000.
-fn run<D: Disk, L: Link>(alloc: Global, disk: &mut D, link: &mut L) -> Result<Ending, Fail> {
+pub(crate) fn run<D: Disk, L: Link>(
+    alloc: Global,
+    disk: &mut D,
+    link: &mut L,
+) -> Result<Ending, Fail> {
     let config = RaftNodeConfig::standard(alloc)?.solo()?;
     let mut clock = ListClock::steps(1000, 0);
     Ok(run_by(alloc, disk, link, &mut clock, &config))
 }
 
-fn link_of(alloc: Global, pieces: Pieces, cuts: &[usize]) -> Result<MemLink, Fail> {
+pub(crate) fn link_of(alloc: Global, pieces: Pieces, cuts: &[usize]) -> Result<MemLink, Fail> {
     let mut input = Vec::new(alloc);
     for piece in pieces {
         input.extend_from_slice(piece)?;
@@ -167,7 +177,7 @@ fn link_of(alloc: Global, pieces: Pieces, cuts: &[usize]) -> Result<MemLink, Fai
     Ok(MemLink::new(alloc, input, cuts.to_vec(alloc)?))
 }
 
-fn is_joined(bytes: &[u8], pieces: Pieces) -> bool {
+pub(crate) fn is_joined(bytes: &[u8], pieces: Pieces) -> bool {
     matches!(behind(bytes, pieces), Some(rest) if rest.is_empty())
 }
 
@@ -219,7 +229,12 @@ fn sends(
 }
 
 // Whether a run over this input ends well and has sent this.
-fn answers(alloc: Global, disk: &mut MemDisk, input: Pieces, sent: Pieces) -> Result<bool, Fail> {
+pub(crate) fn answers(
+    alloc: Global,
+    disk: &mut MemDisk,
+    input: Pieces,
+    sent: Pieces,
+) -> Result<bool, Fail> {
     let link = link_of(alloc, input, &[])?;
     sends(alloc, disk, link, Ending::Well, sent)
 }
@@ -236,7 +251,7 @@ fn answers_frames(rt: HostRuntime) -> Result<(), Fail> {
     let cases: [(Pieces, Pieces, Files); 3] = [
         (&[], &[], OPENING),
         (&[PUT, READ], &[WRITTEN, PAIR], WITH_PUT),
-        (&[PUT_WITH_TTL, SCAN], &[NOT_BUILT, NOT_BUILT], OPENING),
+        (&[PUT_WITH_TTL, SCAN], &[NO_LEASE, NOTHING_SCANNED], OPENING),
     ];
     for (input, sent, files) in cases {
         assert!(rt; leaves(rt.alloc(), input, sent, files)?, "of {input:?}");
