@@ -1,7 +1,7 @@
 #!/usr/bin/env python3
 """Tries the built server on real files, where no proof reaches: kills and signals in the midst of its writes, garbage,
-disks that do not take a write, closed descriptors, two servers on one folder, words that name none, the modes of what it
-makes. Says what it did, and ends with 1 where a put that was answered is lost, or a status, a line or a file is another.
+disks that do not take a write, requests of all kinds beside a plain map, closed descriptors, two servers on one folder,
+words that name none, the modes of what it makes. Says what it did, and ends with 1 where a put that was answered is lost, or a status, a line or a file is another.
 
 A kill leaves what the operating system was handed, synced or not: it shows the order of writes and replies, and the opening
 of what stands there, and not that a sync was made.
@@ -18,6 +18,7 @@ import tempfile
 
 sys.dont_write_bytecode = True
 
+import answers
 import descriptors
 import faults
 import stops
@@ -43,6 +44,8 @@ def try_all(program, room):
     faults.streams(program, room)
     descriptors.descriptors(program, room)
     two_servers.two_servers(program, room)
+    answers.whole_runs(program, room, draw)
+    answers.stopped_runs(program, room, draw)
     stops.signals(program, room, draw)
     stops.file_size_signal(program, room)
     stops.kills(program, room, draw)
