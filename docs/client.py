@@ -1,7 +1,7 @@
 #!/usr/bin/env python3
 """A small client: starts the server on a folder and asks it one request after the other.
 
-    client.py PROGRAM FOLDER [put KEY VALUE | get KEY | delete KEY] ..
+    client.py PROGRAM FOLDER [put KEY VALUE | get KEY | delete KEY | swap KEY OLD NEW | scan PREFIX] ..
 
 It reads each reply before it sends the next request, so that no pipe fills. docs/FORMATS.md has the bytes.
 """
@@ -29,6 +29,27 @@ def delete(key):
     return b"\x01\0\0\0\x01\x02" + blob(key)
 
 
+def swap(key, old, new):
+    return b"\x01\0\0\0\x01\x03" + blob(key) + b"\x01" + blob(old) + blob(new)
+
+
+def scan(prefix):
+    return b"\x03\0\0\0\x01" + blob(prefix)
+
+
+def pairs_in(data):
+    """The pairs of a list."""
+    pairs, at = [], 8
+    for _ in range(int.from_bytes(data[:8], "big")):
+        fields = []
+        for _ in range(2):
+            size = int.from_bytes(data[at : at + 8], "big")
+            fields.append(data[at + 8 : at + 8 + size])
+            at += 8 + size
+        pairs.append(tuple(fields))
+    return pairs
+
+
 def reply_to(server, body):
     """The body of the reply; none where the server ended before it was sent."""
     try:
@@ -47,17 +68,20 @@ def told(reply):
         return "no reply: the server ended; the request may have been carried out or not"
     if reply == bytes.fromhex("01000000" "01" "01"):
         return "done"
-    if reply == bytes.fromhex("01000000" "02") + number(0):
-        return "not held"
-    if reply.startswith(bytes.fromhex("01000000" "02") + number(1)):
-        key_size = int.from_bytes(reply[13:21], "big")
-        return "value " + repr(reply[21 + key_size + 8 :])
+    if reply == bytes.fromhex("01000000" "01" "00"):
+        return "not done: another value"
+    if reply.startswith(bytes.fromhex("01000000" "02")):
+        pairs = pairs_in(reply[5:])
+        return "value " + repr(pairs[0][1]) if pairs else "not held"
+    if reply.startswith(b"\x02"):
+        revision = int.from_bytes(reply[1:9], "big")
+        return f"at {revision}: {pairs_in(reply[9:])}"
     if reply == bytes.fromhex("06ff"):
         return "refused: this version does not carry it out"
     return "refused with " + reply.hex()
 
 
-KINDS = {"put": (put, 2), "get": (get, 1), "delete": (delete, 1)}
+KINDS = {"put": (put, 2), "get": (get, 1), "delete": (delete, 1), "swap": (swap, 3), "scan": (scan, 1)}
 
 
 def requests_of(words):
