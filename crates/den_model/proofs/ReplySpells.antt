@@ -131,15 +131,13 @@ spells_refusal = record { again = refusal_again; found = refusal_found }
     refusal_again refusal.InvalidPrefix rest h = refl
     refusal_again refusal.LimitExceeded rest h = refl
     refusal_again refusal.FeatureNotEnabled rest h = refl
-    refusal_again refusal.NotBuilt rest h = refl
 
     refusal_found : (bytes : List ℕ) (y : Refusal) (rest : List ℕ) → IsBytes bytes → refusal_at bytes ≡ Some (y, rest) → (r : Refusal) × (y ≡ r) × (bytes ≡ refusal_word r ++ rest) × Known r
     refusal_found [] y rest h e = absurd (no_none (y, rest) e)
     refusal_found (tag ∷ bytes) y rest h e =
         let b = behind_or {fits = Known} {word = refusal_word} tag 1 (behind_done 1 refusal.InvalidPrefix tt (λ rest. refl))
         (behind_or tag 2 (behind_done 2 refusal.LimitExceeded tt (λ rest. refl))
-        (behind_or tag 3 (behind_done 3 refusal.FeatureNotEnabled tt (λ rest. refl))
-        (behind_or tag 255 (behind_done 255 refusal.NotBuilt tt (λ rest. refl)) (behind_none tag)))) in
+        (behind_or tag 3 (behind_done 3 refusal.FeatureNotEnabled tt (λ rest. refl)) (behind_none tag))) in
         let t = b.found bytes y rest (λ i. h (suc i)) e in
         (y, refl, t.0, t.1)
 

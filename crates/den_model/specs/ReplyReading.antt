@@ -56,7 +56,6 @@ refusal_at = do
   if number == 1 then done refusal.InvalidPrefix
       else if number == 2 then done refusal.LimitExceeded
       else if number == 3 then done refusal.FeatureNotEnabled
-      else if number == 255 then done refusal.NotBuilt
       else no_word
 
 unfoldable pub kv_at : Reader KvEntry

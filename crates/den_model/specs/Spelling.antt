@@ -168,7 +168,6 @@ abbrev pub refusal_number : Refusal → ℕ
 refusal_number refusal.InvalidPrefix = 1
 refusal_number refusal.LimitExceeded = 2
 refusal_number refusal.FeatureNotEnabled = 3
-refusal_number refusal.NotBuilt = 255
 
 abbrev pub kv_word : KvEntry → List ℕ
 kv_word p = blob_word p.key ++ blob_word p.value

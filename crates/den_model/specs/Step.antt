@@ -28,9 +28,9 @@ use Rattle.den_model.specs.declared.reply.WatchEventType.TheVariants as event
 use Rattle.den_model.specs.Entries.{LogEntry}
 use Rattle.den_model.specs.Table.{Table}
 use Rattle.den_model.specs.declared.held.Held.{Held}
-use Rattle.den_model.specs.declared.running.Running.{Running}
-use Rattle.den_model.specs.declared.running.Watcher.{Watcher}
-use Rattle.den_model.specs.Kv.{Durable, Kv}
+use Rattle.den_model.specs.declared.watcher.Change.{Change}
+use Rattle.den_model.specs.declared.watcher.Watcher.{Watcher}
+use Rattle.den_model.specs.Kv.{Durable, Kv, Running}
 use Rattle.den_model.specs.Apply.{value_at, succeeds, applied, cleaned}
 
 pub data Step : Type 0 where
@@ -86,21 +86,16 @@ begins_with key prefix = pointwise nat_eq prefix (take (length prefix) key)
 abbrev pub sees : Watcher → List ℕ → Bool
 sees w key = if w.prefix then begins_with key w.key else pointwise nat_eq key w.key
 
--- What an entry did to a key: its index, the kind, the key, the new value, and the earlier one if the key was held.
-pub record Change : Type 0 where
-  pub index : ℕ
-  pub kind : WatchEventType
-  pub key : List ℕ
-  pub value : List ℕ
-  pub prev : Option (List ℕ)
+-- what the entry of this index and command does to a key where it succeeds
+abbrev pub change_made : Durable → ℕ → Command → Option Change
+change_made d index command.Noop = None
+change_made d index (command.Insert key value ttl_secs) = Some (record { index = index; kind = event.Put; key = key; value = value; prev = value_at d key })
+change_made d index (command.Delete key) = Some (record { index = index; kind = event.Delete; key = key; value = []; prev = value_at d key })
+change_made d index (command.CompareAndSwap key expected value) = Some (record { index = index; kind = event.Put; key = key; value = value; prev = value_at d key })
 
--- the change that the entry of this index and command makes; none where it makes none
+-- the change that it makes; none where it makes none
 abbrev pub change_of : Durable → ℕ → Command → Option Change
-change_of d index command.Noop = None
-change_of d index (command.Insert key value ttl_secs) = Some (record { index = index; kind = event.Put; key = key; value = value; prev = value_at d key })
-change_of d index (command.Delete key) = Some (record { index = index; kind = event.Delete; key = key; value = []; prev = value_at d key })
-change_of d index (command.CompareAndSwap key expected value) =
-    if succeeds d (command.CompareAndSwap key expected value) then Some (record { index = index; kind = event.Put; key = key; value = value; prev = value_at d key }) else None
+change_of d index c = if succeeds d c then change_made d index c else None
 
 -- what a watcher is told of a change: the earlier value only where it asked for that
 abbrev pub event_of : Change → Watcher → WatchEvent
@@ -116,6 +111,11 @@ event_of c w = record {
 -- one event for each watcher that sees the key, in their order
 abbrev pub events_of : List Watcher → Change → List WatchEvent
 events_of watchers c = map (event_of c) (filter (λ w. sees w c.key) watchers)
+
+-- the events of a change, if there is one
+abbrev pub raised : List Watcher → Option Change → List WatchEvent
+raised watchers None = []
+raised watchers (Some c) = events_of watchers c
 
 -- the next entry
 abbrev pub next_entry : Kv → ℕ → Command → LogEntry
@@ -141,7 +141,7 @@ abbrev pub committed : Kv → ℕ → Command → Outcome
 committed s moment c = record {
   after = put_through s (next_entry s moment c);
   reply = Some (answered (payload.Write (succeeds s.durable c)));
-  events = elim (change_of s.durable (s.durable.last_index + 1) c) [ None ↦ [] | Some change ↦ events_of s.running.watchers change ];
+  events = raised s.running.watchers (change_of s.durable (s.durable.last_index + 1) c);
   logged = next_entry s moment c ∷ [];
 }
 
@@ -180,21 +180,23 @@ scan s prefix =
 abbrev pub is_prefix : List ℕ → Bool
 is_prefix key = starts_with nat_eq key (47 ∷ []) && ends_with nat_eq key (47 ∷ [])
 
-abbrev pub is_full : Running → Bool
-is_full r = nat_le r.setting.maximum (length r.watchers) || nat_le (2 ^ 64 - 1) r.registered
+-- there are as many watchers as there may be, or no number is left for one more
+abbrev pub are_full : (maximum registered : ℕ) → List Watcher → Bool
+are_full maximum registered watchers = nat_le maximum (length watchers) || nat_le (2 ^ 64 - 1) registered
 
-abbrev pub registered : Running → List ℕ → Bool → Bool → Running
-registered r key prefix prev_kv = record r {
-  watchers = r.watchers ++ (record { number = r.registered + 1; key = key; prefix = prefix; prev_kv = prev_kv } ∷ []);
-  registered = r.registered + 1;
-}
+-- the watcher that is registered behind so many
+abbrev pub next_watcher : (registered : ℕ) → List ℕ → Bool → Bool → Watcher
+next_watcher registered key prefix prev_kv = record { number = registered + 1; key = key; prefix = prefix; prev_kv = prev_kv }
+
+abbrev pub with_watcher : Running → List ℕ → Bool → Bool → Running
+with_watcher r key prefix prev_kv = record r { watchers = r.watchers ++ next_watcher r.registered key prefix prev_kv ∷ []; registered = r.registered + 1 }
 
 abbrev pub watch : Kv → List ℕ → Bool → Bool → Outcome
 watch s key prefix prev_kv =
     if prefix && not (is_prefix key) then says s (reply.Refused refusal.InvalidPrefix)
-    else if is_full s.running then says s (reply.Refused refusal.LimitExceeded)
+    else if are_full s.running.setting.maximum s.running.registered s.running.watchers then says s (reply.Refused refusal.LimitExceeded)
     else record {
-      after = record s { running = registered s.running key prefix prev_kv };
+      after = record s { running = with_watcher s.running key prefix prev_kv };
       reply = Some (reply.Watching (s.running.registered + 1));
       events = [];
       logged = [];
@@ -217,24 +219,10 @@ answer_to s moment (request.Scan client_id prefix) = scan s prefix
 answer_to s moment (request.Watch client_id prefix prev_kv key) = watch s key prefix prev_kv
 answer_to s moment (request.Members client_id) = says s (reply.Members (record s.running.members { nodes = by_id s.running.members.nodes }))
 
--- ---- what this version answers
-
--- the requests that it answers: writes, reads and scans
-abbrev pub is_built : Request → Bool
-is_built (request.Write w) = true
-is_built (request.Read r) = true
-is_built (request.Scan client_id prefix) = true
-is_built (request.Watch client_id prefix prev_kv key) = false
-is_built (request.Members client_id) = false
-
--- refused by name, and nothing changes
-abbrev pub not_built : Kv → Outcome
-not_built s = says s (reply.Refused refusal.NotBuilt)
-
--- A bad frame is an invalid request, and a request that is not built yet is refused by name.
+-- a bad frame is an invalid request
 abbrev pub answer : Kv → ℕ → Frame → Outcome
 answer s moment Bad = invalid s
-answer s moment (Good r) = if is_built r then answer_to s moment r else not_built s
+answer s moment (Good r) = answer_to s moment r
 
 abbrev pub silent : Kv → Outcome
 silent s = record { after = s; reply = None; events = []; logged = [] }

@@ -36,7 +36,6 @@ pub enum Refusal {
     InvalidPrefix,
     LimitExceeded,
     FeatureNotEnabled,
-    NotBuilt,
 }
 
 /// The node that leads, and the address at which clients reach it.
