@@ -1,9 +1,7 @@
 -- The default configuration, and what a run begins with under a configuration.
 use Rattle.std.specs.Prelude.{◌≡◌, ℕ, pos, false, List, [], ◌∷◌, Some, None, codes}
 use Rattle.den_model.specs.declared.reply.NodeMeta.{NodeMeta}
-use Rattle.den_model.specs.declared.running.Running.{Running}
-use Rattle.den_model.specs.declared.running.Setting.{Setting}
-use Rattle.den_model.specs.Kv.{Durable, Kv, running_at_entry}
+use Rattle.den_model.specs.Kv.{Durable, Kv, running_at_entry, Running, Setting}
 use Rattle.den_codec.specs.declared.config.RaftNodeConfig.{RaftNodeConfig}
 
 -- node 1 alone, at its default address

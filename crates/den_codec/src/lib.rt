@@ -35,12 +35,11 @@ pub use config::{
 };
 pub use config_place::ConfigPlace;
 pub use den_model::{
-    ApplyResult, Blob, ClientReadRequest, ClientResponse, ClientResponsePayload,
+    ApplyResult, Blob, Change, ClientReadRequest, ClientResponse, ClientResponsePayload,
     ClientWriteRequest, ClusterMembership, Command, Entry, ErrorCode, Frame, HardState, Held,
     JournalRecord, KvEntry, Label, LeaderHint, LeaderInfo, LogId, LogRegion, NewEntries, NodeMeta,
-    Positive, ReadConsistencyPolicy, Refusal, Replacement, Reply, Request, Rows, Running,
-    ScanResult, Setting, StateRegion, StoredPair, VotedFor, WatchEvent, WatchEventType, Watcher,
-    WriteOperation,
+    Positive, ReadConsistencyPolicy, Refusal, Replacement, Reply, Request, Rows, ScanResult,
+    StateRegion, StoredPair, VotedFor, WatchEvent, WatchEventType, Watcher, WriteOperation,
 };
 pub use error::Error;
 pub use reads::ReadError;

@@ -255,7 +255,6 @@ fn refusal_number(refusal: Refusal) -> u8
         Refusal::InvalidPrefix => 1,
         Refusal::LimitExceeded => 2,
         Refusal::FeatureNotEnabled => 3,
-        Refusal::NotBuilt => 255,
     }
 }
 
@@ -268,7 +267,6 @@ fn take_refusal(bytes: &[u8]) -> Result<(Refusal, &[u8]), ReadError>
         1 => Ok((Refusal::InvalidPrefix, rest)),
         2 => Ok((Refusal::LimitExceeded, rest)),
         3 => Ok((Refusal::FeatureNotEnabled, rest)),
-        255 => Ok((Refusal::NotBuilt, rest)),
         _ => Err(ReadError::NoWord),
     }
 }
