@@ -1,20 +1,20 @@
 -- An engine that is opened over stores: what they stood for, and then the opening.
-use Rattle.std.proofs.Common.{◌≡◌, ℕ, ◌+◌, ◌≤◌, IsTrue, List, [], ◌∷◌, ◌++◌, length, true, Option, Some, inl, inr, refl, sym, ◌∙◌, ap, subst, arith}
+use Rattle.std.proofs.Common.{◌≡◌, ℕ, ◌+◌, ◌≤◌, IsTrue, List, [], ◌∷◌, ◌++◌, length, Bool, true, false, if◌then◌else◌, Option, Some, inl, inr, refl, sym, ◌∙◌, ap, subst, arith}
 use Rattle.std.proofs.lemmas.List.{append-nil}
 use Rattle.den_disk.specs.declared.disk.Disk.{Ghosts}
 use Rattle.den_disk.specs.Files.{Files, Kind}
 use Rattle.den_disk.specs.Goes.{added}
 use Rattle.den_journal.specs.Writes.{GoesOn}
 use Rattle.den_model.specs.declared.log_id.HardState.{HardState}
-use Rattle.den_model.specs.declared.running.Running.{Running}
 use Rattle.den_model.specs.Crash.{Survives}
 use Rattle.den_model.specs.Grown.{IsLogAfter}
 use Rattle.den_model.specs.Image.{durable}
-use Rattle.den_model.specs.Kv.{Durable, Kv}
+use Rattle.den_model.specs.Kv.{Durable, Kv, Running}
 use Rattle.den_model.specs.Log.{Log, above}
 use Rattle.den_model.specs.MapState.{MapState}
 use Rattle.den_model.specs.Plan.{after, opening, plan}
-use Rattle.den_model.specs.Step.{leads, moment_of}
+use Rattle.den_model.specs.Step.{Cleanup, Noop, Raise, Step, leads, moment_of}
+use Rattle.den_watch.specs.Registry.{nobody}
 use Rattle.den_core.proofs.Lists.{added_is, added_none}
 use Rattle.den_core.proofs.Stretch.{goes_on}
 use Rattle.den_core.proofs.Weighing.{same_short, short_step}
@@ -77,12 +77,20 @@ later_short clock_told l h s running r0 r1 reading moment entries same weight he
     (subst (λ steps. IsBegun first old steps kv log next) (beginning_is kept running first r0 r1 reading moment same_kv (read told) is_moment) begun)))
     same_most le step)
 
+-- an opening's steps note a cleanup, and leave all else of the run's part
+opened_run : (led lease : Bool) (kv : Kv) (moment : ℕ) (last : Option ℕ) → let steps : List Step = (if led then Raise ∷ Noop moment ∷ [] else []) ++ (if lease then Cleanup moment ∷ [] else []) in
+    (let x : Running = record (after kv steps).running { cleaned = last } in x) ≡ record kv.running { cleaned = last }
+opened_run true true kv moment last = refl
+opened_run true false kv moment last = refl
+opened_run false true kv moment last = refl
+opened_run false false kv moment last = refl
+
 -- it was opened: the stores were brought together, and the opening's steps made
 pub opened : {D : Type 0} (disk : Ghosts D) (clock_told : Type 0) (l : Log) (h : Option HardState) (s : MapState) (running : Running) (r0 r1 : List ℕ) (reading moment entries heaviest : ℕ) (was now : Seen) (old mid new : D)
     → GoesOn disk old mid → durable l h s ≡ Some was.kv.durable → was.kv.running ≡ running → was.log ≡ l → was.most ≡ entries → was.weight + opening_rise ≤ heaviest
     → (clock_told → r1 ≡ r0 ++ reading ∷ []) → moment ≡ moment_of reading → now.most ≡ was.most → Made disk was now mid new (opening was.kv moment) opening_rise
-    → (leads was.kv ≡ true → LogIsShort now) → (leads was.kv ≡ true → now.short) → IsOpened disk clock_told l h s running (added r0 r1) entries heaviest now old new
-opened disk clock_told l h s running r0 r1 reading moment entries heaviest was now old mid new on found ran log_is most_is le read is_moment same_most made led state_led =
+    → (leads was.kv ≡ true → LogIsShort now) → (leads was.kv ≡ true → now.short) → was.waits ≡ nobody running.setting.buffer running.setting.maximum → now.waits ≡ was.waits → IsOpened disk clock_told l h s running (added r0 r1) entries heaviest now old new
+opened disk clock_told l h s running r0 r1 reading moment entries heaviest was now old mid new on found ran log_is most_is le read is_moment same_most made led state_led waits same_waits =
     let kept = was.kv.durable in
     let same : was.kv ≡ start kept running = start_is (durable l h s) kept was.kv running found found ran in
     record {
@@ -94,6 +102,10 @@ opened disk clock_told l h s running r0 r1 reading moment entries heaviest was n
       logged = λ told. subst (λ k. IsLogAfter l k (beginning kept running (added r0 r1)) now.log) same
           (subst (λ x. IsLogAfter x was.kv (beginning kept running (added r0 r1)) now.log) log_is
           (subst (λ steps. IsLogAfter was.log was.kv steps now.log) (beginning_is kept running was.kv r0 r1 reading moment same (read told) is_moment) made.logged));
+      run_is = ap (λ (k : Kv). let x : Running = record k.running { cleaned = running.cleaned } in x) made.state
+          ∙ opened_run (leads was.kv) was.kv.running.setting.lease was.kv moment running.cleaned
+          ∙ ap (λ (r : Running). let x : Running = record r { cleaned = running.cleaned } in x) ran;
+      waits = same_waits ∙ waits;
       same_most = same_most ∙ most_is;
       weight = omega (arith, made.weight, le);
       short = λ lead. led (ap leads same ∙ lead);

@@ -7,9 +7,9 @@ use Rattle.den_model.specs.declared.log_id.HardState.{HardState}
 use Rattle.den_model.specs.Apply.{applied, carried_out, succeeds, with_pair}
 use Rattle.den_model.specs.Entries.{LogEntry, rise_above}
 use Rattle.den_model.specs.Image.{Corruption, or_corrupt, durable, joined, term_of, gapless_from, applied_all}
-use Rattle.den_model.specs.declared.running.Running.{Running}
 use Rattle.den_model.specs.Crash.{Survives}
 use Rattle.den_model.specs.Kv.{Durable, Kv}
+use Rattle.den_core.specs.declared.run.Run.{Run}
 use Rattle.den_model.specs.Log.{Log, floor, above, between, last_index, last_of}
 use Rattle.den_model.specs.MapState.{MapState, map_applied, map_applied_all}
 use Rattle.den_map.specs.Leases.{asks_lease, has_expiry, lacks_lease}
@@ -160,7 +160,7 @@ pub started_left : (l : Log) (s started : MapState) (es : List LogEntry) → sta
 started_left l s started es same left = subst (λ m. IsLeft l m es) (sym same) left
 
 -- and what they stand for, once all is applied
-pub started_applied : (l : Log) (h : Option HardState) (s started new : MapState) (es : List LogEntry) (running : Running) (kv : Kv) → started ≡ s → IsLeft l s es
+pub started_applied : (l : Log) (h : Option HardState) (s started new : MapState) (es : List LogEntry) (running : Run) (kv : Kv) → started ≡ s → IsLeft l s es
     → new ≡ map_applied_all started es → kv ≡ kv_of h new running → durable l h s ≡ Some kv.durable
 started_applied l h s started new es running kv same left applied_is kv_is =
     ap (λ m. durable l h m) (sym same)

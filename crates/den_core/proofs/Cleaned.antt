@@ -15,12 +15,12 @@ use Rattle.den_map.specs.Sizes.{pairs_size, stored_size}
 use Rattle.den_map.proofs.Checkpoints.{stored_long}
 use Rattle.den_map.proofs.Paging.{page_long, stored_more}
 use Rattle.den_model.specs.declared.log_id.HardState.{HardState}
-use Rattle.den_model.specs.declared.running.Running.{Running}
 use Rattle.den_model.specs.Apply.{cleaned}
 use Rattle.den_model.specs.Crash.{Survives}
 use Rattle.den_model.specs.Grown.{IsLogAfter}
 use Rattle.den_model.specs.Image.{joined}
 use Rattle.den_model.specs.Kv.{Durable, Kv}
+use Rattle.den_core.specs.declared.run.Run.{Run}
 use Rattle.den_model.specs.Plan.{after, due_cleanup, first_cleanup, is_due}
 use Rattle.den_model.specs.Log.{Log}
 use Rattle.den_model.specs.MapState.{MapState}
@@ -65,7 +65,7 @@ cleanup_begun kv log time = record { made = []; rest = []; parts = refl; state =
 
 -- the map was cleaned, or was not, over files that lay as the three stores left them
 pub cleanup_survives : (holdsG : Files → Option Log) (holdsT : Files → Option (Option HardState)) (holdsM : Files → Option MapState) (old_at new_at : ℕ → Files → Type 0) (from to : ℕ) (content : Content)
-    (l : Log) (h : Option HardState) (s v : MapState) (running : Running) (time : ℕ) → IsCaughtUp l s → ((files : Files) → old_at from files ↔ IsImage content files)
+    (l : Log) (h : Option HardState) (s v : MapState) (running : Run) (time : ℕ) → IsCaughtUp l s → ((files : Files) → old_at from files ↔ IsImage content files)
     → ((one other : Files) → SameOf log_family one other → holdsG other ≡ holdsG one) → ((one other : Files) → SameOf meta_family one other → holdsT other ≡ holdsT one)
     → ((files : Files) → IsImage content files → holdsG files ≡ Some l) → ((files : Files) → IsImage content files → holdsT files ≡ Some h)
     → v ≡ s → OldOrNew holdsM new_at from to v (cleaned_map time v) → SparesImages state_family old_at new_at from to

@@ -10,10 +10,10 @@ use Rattle.den_model.specs.Apply.{applied, carried_out, succeeds, with_pair}
 use Rattle.den_model.specs.Entries.{LogEntry}
 use Rattle.den_model.specs.Image.{durable, term_of}
 use Rattle.den_model.specs.Kv.{Durable}
+use Rattle.den_core.specs.declared.run.Run.{Run}
 use Rattle.den_model.specs.Log.{Log, above, below, changed}
 use Rattle.den_model.specs.MapState.{MapState, part_of, map_applied}
 use Rattle.den_model.specs.Step.{next_entry}
-use Rattle.den_model.specs.declared.running.Running.{Running}
 use Rattle.den_core.specs.Joined.{found_is, durable_is}
 use Rattle.den_core.specs.Parts.{durable_of, kv_of, IsCaughtUp}
 
@@ -100,7 +100,7 @@ pub applied_again : (l : Log) (h : Option HardState) (s : MapState) (e : LogEntr
 applied_again l h s e caught next = durable_is (changed l (Append (e ∷ []))) h (map_applied s e) (caught_up_again l s e caught next) ∙ ap (λ d. Some d) (applied_is h s e)
 
 -- the next entry, as the engine makes it
-pub next_is : (h : Option HardState) (s : MapState) (running : Running) (index term moment : ℕ) (command : Command) (e : LogEntry)
+pub next_is : (h : Option HardState) (s : MapState) (running : Run) (index term moment : ℕ) (command : Command) (e : LogEntry)
     → e ≡ record { index = index + 1; term = term; moment = moment; command = command } → index ≡ s.mark.index → term ≡ term_of h
     → e ≡ next_entry (kv_of h s running) moment command
 next_is h s running index term moment command e is same_index same_term = is
@@ -111,7 +111,7 @@ pub next_index : (s : MapState) (index term moment : ℕ) (command : Command) (e
 next_index s index term moment command e is same_index = ap (λ (x : LogEntry). x.index) is ∙ ap (λ n. n + 1) same_index
 
 -- its entry leaves what that one does
-pub applied_next : (h : Option HardState) (s : MapState) (running : Running) (index term moment : ℕ) (command : Command) (e : LogEntry)
+pub applied_next : (h : Option HardState) (s : MapState) (running : Run) (index term moment : ℕ) (command : Command) (e : LogEntry)
     → e ≡ record { index = index + 1; term = term; moment = moment; command = command } → index ≡ s.mark.index → term ≡ term_of h
     → applied (durable_of h s) e ≡ applied (durable_of h s) (next_entry (kv_of h s running) moment command)
 applied_next h s running index term moment command e is same_index same_term =

@@ -13,6 +13,7 @@ pub mod FirstFrame
 pub mod FramesSoFar
 pub mod Fronts
 pub mod GoesOn
+pub mod Keeping
 pub mod Lists
 pub mod Quiet
 pub mod Reached
@@ -21,6 +22,7 @@ pub mod Sending
 pub mod Spared
 pub mod Steps
 pub mod Stretch
+pub mod Telling
 pub mod Trimming
 pub mod Turns
 pub mod Twice

@@ -8,7 +8,8 @@ use Rattle.den_disk.specs.Files.{Files}
 use Rattle.den_model.specs.declared.command.Command.TheVariants as command
 use Rattle.den_model.specs.Apply.{applied}
 use Rattle.den_model.specs.Crash.{Survives}
-use Rattle.den_model.specs.Kv.{Durable, Kv}
+use Rattle.den_model.specs.Kv.{Durable, Kv, Running}
+use Rattle.den_core.specs.declared.run.Run.{Run}
 use Rattle.den_model.specs.Grown.{appended, IsLogAfter, IsPurgedUpTo}
 use Rattle.den_model.specs.Log.{Log, changed}
 use Rattle.den_model.specs.Plan.{after, logged}
@@ -17,7 +18,6 @@ use Rattle.den_model.proofs.Grown.{log_after, log_twice}
 use Rattle.den_model.specs.Step.{Step, Raise, Noop, next_entry}
 use Rattle.den_model.specs.declared.log_id.HardState.{HardState}
 use Rattle.den_model.specs.declared.log_id.LogId.{LogId}
-use Rattle.den_model.specs.declared.running.Running.{Running}
 use Rattle.den_model.specs.MapState.{MapState}
 use Rattle.den_core.specs.Full.{IsBegun}
 use Rattle.den_core.specs.Parts.{kv_of, raised_by}
@@ -36,19 +36,19 @@ pub noop_begun : (kv between : Kv) (log mid : Log) (moment : ℕ) → between �
 noop_begun kv between log mid moment is same = record { made = Raise ∷ []; rest = []; parts = refl; state = is; left_is = (log_after log mid kv (Raise ∷ []) same, refl) }
 
 -- this node is one that may be voted for
-raise_adds : (id : ℕ) (h : Option HardState) (s : MapState) (running : Running) (family : Family) (n : ℕ) → (hard_state_sizes (raised_by id h)).adds family n → (next_term_sizes (kv_of h s running)).adds family n
+raise_adds : (id : ℕ) (h : Option HardState) (s : MapState) (running : Run) (family : Family) (n : ℕ) → (hard_state_sizes (raised_by id h)).adds family n → (next_term_sizes (kv_of h s running)).adds family n
 raise_adds id h s running log_family n is = absurd is
 raise_adds id h s running meta_family n is = absurd is
 raise_adds id h s running state_family n is = absurd is
 raise_adds id h s running snapshot_family n is = absurd is
 
-raise_drafts : (id : ℕ) (h : Option HardState) (s : MapState) (running : Running) (family : Family) (n : ℕ) → (hard_state_sizes (raised_by id h)).drafts family n → (next_term_sizes (kv_of h s running)).drafts family n
+raise_drafts : (id : ℕ) (h : Option HardState) (s : MapState) (running : Run) (family : Family) (n : ℕ) → (hard_state_sizes (raised_by id h)).drafts family n → (next_term_sizes (kv_of h s running)).drafts family n
 raise_drafts id h s running log_family n is = absurd is
 raise_drafts id h s running meta_family n is = (id, is)
 raise_drafts id h s running state_family n is = absurd is
 raise_drafts id h s running snapshot_family n is = absurd is
 
-pub raise_among : (id : ℕ) (h : Option HardState) (s : MapState) (running : Running) → AreAmong (hard_state_sizes (raised_by id h)) (next_term_sizes (kv_of h s running))
+pub raise_among : (id : ℕ) (h : Option HardState) (s : MapState) (running : Run) → AreAmong (hard_state_sizes (raised_by id h)) (next_term_sizes (kv_of h s running))
 raise_among id h s running = record { adds = raise_adds id h s running; drafts = raise_drafts id h s running }
 
 -- the term was raised, or was not
@@ -67,7 +67,7 @@ term_made holds old_at new_at from mid to kv between moment is past one two =
     (moves holds new_at mid to between (Noop moment) two)
 
 -- what a raise leaves
-pub raised_is : (id : ℕ) (h h2 : Option HardState) (s s2 : MapState) (running running2 : Running) → h2 ≡ Some (raised_by id h) → s2 ≡ s → running2 ≡ running
+pub raised_is : (id : ℕ) (h h2 : Option HardState) (s s2 : MapState) (running running2 : Run) → h2 ≡ Some (raised_by id h) → s2 ≡ s → running2 ≡ running
     → kv_of h2 s2 running2 ≡ after (kv_of h s running) (Raise ∷ [])
 raised_is id h h2 s s2 running running2 saved same_map same_running =
     ap (λ x. kv_of x s2 running2) saved ∙ ap (λ x. kv_of (Some (raised_by id h)) x running2) same_map ∙ ap (λ x. kv_of (Some (raised_by id h)) s x) same_running

@@ -10,18 +10,17 @@ use Rattle.den_journal.specs.Writes.{DiskTells}
 use Rattle.den_model.specs.declared.command.Command.{Command}
 use Rattle.den_model.specs.declared.reply.Reply.{Reply}
 use Rattle.den_model.specs.declared.request.Frame.{Frame}
-use Rattle.den_model.specs.declared.running.Running.{Running}
-use Rattle.den_model.specs.declared.running.Setting.{Setting}
 use Rattle.den_model.specs.Apply.{applied}
 use Rattle.den_model.specs.Entries.{LogEntry}
 use Rattle.den_model.specs.Grown.{appended, IsPurgedUpTo}
-use Rattle.den_model.specs.Kv.{Durable, Kv}
+use Rattle.den_model.specs.Kv.{Durable, Kv, Running}
 use Rattle.den_model.specs.Log.{Log}
 use Rattle.den_model.specs.MapState.{MapState}
 use Rattle.den_model.specs.Plan.{after, first_cleanup, logged, opening, output}
 use Rattle.den_model.specs.Step.{Step, Raise, Noop, Cleanup, Ask, Outcome, answer, committed, leads, next_entry, says}
 use Rattle.den_model.specs.Crash.{Survives}
 use Rattle.den_disk.specs.Families.{OldOrNew}
+use Rattle.den_core.specs.declared.run.Run.{Run}
 use Rattle.den_core.specs.Full.{IsBegun}
 use Rattle.den_core.specs.Making.{CanGoOn, ChangesStores, IsCallTooShort, IsStepRefused, IsUntouched, Makes, Says, Seen}
 use Rattle.den_core.specs.Parts.{IsReady}
@@ -73,39 +72,51 @@ ask_logged kv frame moment o is = append-nil (answer kv moment frame).logged ∙
 module _ {D : Type 0} (disk : Ghosts D) (was : Seen) (says_of : Says) (frame : Frame) (moment above : ℕ) (written : Type 0) where
   -- nothing is written
   module _ (at : D) (stands : CanGoOn disk was at) (holds : DiskTells disk at → says_of.told → GivesAll says_of.holds (disk.images at) (disk.moment at) (disk.moment at) was.kv.durable) where
-    -- a reply at once
-    pub ask_said : {U : Type 0} (reply : Reply) (y : U) → answer was.kv moment frame ≡ says was.kv reply
-        → Makes disk was was at at says_of (Ask frame moment ∷ []) above (IsCallTooShort was (Ask frame moment ∷ [])) written (Ok y)
-    ask_said reply y is = record {
+    -- the durable part stays, as behind a reply at once or a watcher that was registered
+    pub ask_stays : {U : Type 0} (o : Outcome) (now : Seen) (y : U) → answer was.kv moment frame ≡ o → o.logged ≡ [] → o.after.durable ≡ was.kv.durable → now.kv ≡ o.after → now.log ≡ was.log
+        → now.most ≡ was.most → now.weight ≡ was.weight → now.ready → (DiskTells disk at → now.rests (disk.content at))
+        → Makes disk was now at at says_of (Ask frame moment ∷ []) above (IsCallTooShort was (Ask frame moment ∷ [])) written (Ok y)
+    ask_stays o now y is none durable state log most weight ready rests = record {
       goes_on = disk_same disk.kind disk.moment disk.images disk.faults at;
       snapshot = λ told. spares_still _ _ _ _ _;
-      same_most = refl;
+      same_most = most;
       survives = λ told held. moves says_of.holds (disk.images at) (disk.moment at) (disk.moment at) was.kv (Ask frame moment) (gives_old _ _ _ _ _ _ (holds told held));
       done = record {
-        state = sym (ap (λ (o : Outcome). o.after) is);
-        logged = purged_after was.log was.log was.kv (Ask frame moment ∷ []) (inl (sym (ap (appended was.log) (ask_logged was.kv frame moment (says was.kv reply) is))));
-        weight = omega arith;
-        ready = stands.ready;
-        rests = stands.rests;
+        state = state ∙ sym (ap (λ (x : Outcome). x.after) is);
+        logged = purged_after was.log now.log was.kv (Ask frame moment ∷ []) (inl (log ∙ sym (ap (appended was.log) (ask_logged was.kv frame moment o is ∙ none))));
+        weight = omega (arith, weight);
+        ready = ready;
+        rests = rests;
       };
       refused = tt;
     }
 
-    -- memory was wanting
-    pub ask_wanted : {U : Type 0} (e : Error) (r : Result U Error) → IsErrAnd r (λ y. y ≡ e) → e ≡ OutOfMemory
-        → Makes disk was was at at says_of (Ask frame moment ∷ []) above (IsCallTooShort was (Ask frame moment ∷ [])) written r
-    ask_wanted e r exit wants = record {
+    -- a reply at once
+    pub ask_said : {U : Type 0} (reply : Reply) (y : U) → answer was.kv moment frame ≡ says was.kv reply
+        → Makes disk was was at at says_of (Ask frame moment ∷ []) above (IsCallTooShort was (Ask frame moment ∷ [])) written (Ok y)
+    ask_said reply y is = ask_stays (says was.kv reply) was y is refl refl refl refl refl refl stands.ready stands.rests
+
+    -- memory was wanting, and all that is seen stays
+    pub ask_near : {U : Type 0} (now : Seen) → now.kv ≡ was.kv → now.waits ≡ was.waits → now.log ≡ was.log → now.most ≡ was.most → now.weight ≡ was.weight → (was.short → now.short) → (was.ready → now.ready)
+        → (DiskTells disk at → was.rests (disk.content at) → now.rests (disk.content at)) → (e : Error) (r : Result U Error) → IsErrAnd r (λ y. y ≡ e) → e ≡ OutOfMemory
+        → Makes disk was now at at says_of (Ask frame moment ∷ []) above (IsCallTooShort was (Ask frame moment ∷ [])) written r
+    ask_near now kv waits log most weight short ready rests e r exit wants = record {
       goes_on = disk_same disk.kind disk.moment disk.images disk.faults at;
       snapshot = λ told. spares_still _ _ _ _ _;
-      same_most = refl;
+      same_most = most;
       survives = λ told held. moves says_of.holds (disk.images at) (disk.moment at) (disk.moment at) was.kv (Ask frame moment) (gives_old _ _ _ _ _ _ (holds told held));
       done = not_done r e _ exit;
-      refused = at_exit r e _ exit (subst (IsStepRefused disk was was at at says_of above (IsCallTooShort was (Ask frame moment ∷ [])) written) (sym wants) (record {
+      refused = at_exit r e _ exit (subst (IsStepRefused disk was now at at says_of above (IsCallTooShort was (Ask frame moment ∷ [])) written) (sym wants) (record {
         cause = tt;
         full = tt;
-        left = inl (record { same_kv = refl; same_log = refl; same_weight = refl; same_disk = refl; stays_short = λ short. short; stays_ready = λ ready. ready; stays_at_rest = λ told rests. rests });
+        left = inl (record { same_kv = kv; same_waits = waits; same_log = log; same_weight = weight; same_disk = refl; stays_short = short; stays_ready = ready; stays_at_rest = rests });
       }));
     }
+
+    -- and nothing was touched
+    pub ask_wanted : {U : Type 0} (e : Error) (r : Result U Error) → IsErrAnd r (λ y. y ≡ e) → e ≡ OutOfMemory
+        → Makes disk was was at at says_of (Ask frame moment ∷ []) above (IsCallTooShort was (Ask frame moment ∷ [])) written r
+    ask_wanted e r exit wants = ask_near was refl refl refl refl refl (λ short. short) (λ ready. ready) (λ told rests. rests) e r exit wants
 
   -- an entry is committed
   module _ (command : Command) (is : answer was.kv moment frame ≡ committed was.kv moment command) (rise : ℕ) (le : rise ≤ above) (now : Seen) (old new : D) where
@@ -170,6 +181,7 @@ module _ {D : Type 0} (disk : Ghosts D) (was : Seen) (says_of : Says) (frame : F
 -- The same stepper, with another run's part.
 pub record IsAside (one two : Seen) (running : Running) : Type 0 where
   pub kv : two.kv ≡ record { durable = one.kv.durable; running = running }
+  pub waits : two.waits ≡ one.waits
   pub log : two.log ≡ one.log
   pub weight : two.weight ≡ one.weight
   pub short : one.short → two.short
@@ -177,18 +189,14 @@ pub record IsAside (one two : Seen) (running : Running) : Type 0 where
   pub rests : (content : Content) → one.rests content → two.rests content
 
 -- it can go on with another run's part that goes with it
-pub ready_aside : (log_ready meta_ready state_ready : Type 0) (l : Log) (s : MapState) (role : ℤ) (leased : Bool) (one two : Running) → two.setting ≡ one.setting → two.watchers ≡ one.watchers
+pub ready_aside : (log_ready meta_ready state_ready : Type 0) (l : Log) (s : MapState) (role : ℤ) (leased : Bool) (one two : Run) → two.role ≡ one.role → two.lease ≡ one.lease
     → IsReady log_ready meta_ready state_ready l s role leased one → IsReady log_ready meta_ready state_ready l s role leased two
-ready_aside log_ready meta_ready state_ready l s role leased one two setting watchers ready = record {
+ready_aside log_ready meta_ready state_ready l s role leased one two same_role same_lease ready = record {
   log = ready.log;
   meta = ready.meta;
   state = ready.state;
   caught_up = ready.caught_up;
-  goes_with = record {
-    role_is = ap (λ (x : Setting). x.role) setting ∙ ready.goes_with.role_is;
-    lease_is = ap (λ (x : Setting). x.lease) setting ∙ ready.goes_with.lease_is;
-    unwatched = watchers ∙ ready.goes_with.unwatched;
-  };
+  goes_with = record { role_is = same_role ∙ ready.goes_with.role_is; lease_is = same_lease ∙ ready.goes_with.lease_is };
 }
 
 -- a call that left all as it was, behind a cleanup that took nothing and of which no moment is kept
@@ -196,6 +204,7 @@ pub untouched_aside : {D : Type 0} (disk : Ghosts D) (was mid now left : Seen) (
     → IsAside was mid running → IsAside now left was.kv.running → between ≡ old → IsUntouched disk mid now between new → IsUntouched disk was left old new
 untouched_aside disk was mid now left old between new running one two same still = record {
   same_kv = two.kv ∙ ap (λ (k : Kv). let x : Kv = record { durable = k.durable; running = was.kv.running } in x) (still.same_kv ∙ one.kv);
+  same_waits = two.waits ∙ still.same_waits ∙ one.waits;
   same_log = two.log ∙ still.same_log ∙ one.log;
   same_weight = two.weight ∙ still.same_weight ∙ one.weight;
   same_disk = still.same_disk ∙ same;

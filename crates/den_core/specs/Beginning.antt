@@ -4,15 +4,15 @@ use Rattle.den_disk.specs.declared.disk.Disk.{Ghosts}
 use Rattle.den_disk.specs.Files.{Files}
 use Rattle.den_journal.specs.Writes.{DiskTells}
 use Rattle.den_model.specs.declared.log_id.HardState.{HardState}
-use Rattle.den_model.specs.declared.running.Running.{Running}
 use Rattle.den_model.specs.Grown.{IsLogAfter}
 use Rattle.den_model.specs.Image.{durable}
-use Rattle.den_model.specs.Kv.{Durable, Kv}
+use Rattle.den_model.specs.Kv.{Durable, Kv, Running}
 use Rattle.den_model.specs.Log.{Log, above}
 use Rattle.den_model.specs.MapState.{MapState}
 use Rattle.den_model.specs.Plan.{after, plan}
 use Rattle.den_model.specs.Sizes.{entries_size, store_rise}
 use Rattle.den_model.specs.Step.{Step, leads}
+use Rattle.den_watch.specs.Registry.{nobody}
 use Rattle.den_core.specs.Full.{IsBegun, IsSlotTooShort, IsStepTooShort}
 use Rattle.den_core.specs.Making.{LogIsShort, Seen}
 use Rattle.den_core.specs.PayloadSizes.{chunk_sizes}
@@ -37,7 +37,8 @@ IsOpeningTooShort clock_told l h s running readings entries most needed files =
     ⊎ IsStepTooShort (λ kv log next. clock_told → (kept : Durable) → durable l h s ≡ Some kept → IsBegun (start kept running) l (beginning kept running readings) kv log next) entries most needed files
 
 module _ {D : Type 0} (disk : Ghosts D) where
-  -- An engine that was opened over these stores: it made the opening's steps from what they stood for, at one reading of
+  -- An engine that was opened over these stores: its run's part is this one but for the last cleanup, whatever the clock
+  -- tells, and nobody watches; it made the opening's steps from what the stores stood for, at one reading of
   -- the clock. Where it leads its log is short, and so is its state machine.
   pub record IsOpened (clock_told : Type 0) (l : Log) (h : Option HardState) (s : MapState) (running : Running) (readings : List ℕ) (entries heaviest : ℕ) (now : Seen) (old new : D) : Type 0 where
     pub kept : Durable
@@ -45,6 +46,8 @@ module _ {D : Type 0} (disk : Ghosts D) where
     pub one_reading : clock_told → length readings ≡ 1
     pub state : clock_told → now.kv ≡ after (start kept running) (beginning kept running readings)
     pub logged : clock_told → IsLogAfter l (start kept running) (beginning kept running readings) now.log
+    pub run_is : (let x : Running = record now.kv.running { cleaned = running.cleaned } in x) ≡ running
+    pub waits : now.waits ≡ nobody running.setting.buffer running.setting.maximum
     pub same_most : now.most ≡ entries
     pub weight : now.weight ≤ heaviest
     pub short : leads (start kept running) ≡ true → LogIsShort now

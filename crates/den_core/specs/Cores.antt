@@ -4,9 +4,7 @@ use Rattle.den_codec.specs.declared.config.RaftNodeConfig.{RaftNodeConfig}
 use Rattle.den_model.specs.declared.reply.LeaderHint.{LeaderHint}
 use Rattle.den_model.specs.declared.reply.LeaderInfo.{LeaderInfo}
 use Rattle.den_model.specs.declared.reply.NodeMeta.{NodeMeta}
-use Rattle.den_model.specs.declared.running.Running.{Running}
-use Rattle.den_model.specs.declared.running.Setting.{Setting}
-use Rattle.den_model.specs.Kv.{running_at_entry}
+use Rattle.den_model.specs.Kv.{running_at_entry, Running, Setting}
 
 -- The node's id, its role, where it sends callers that it does not serve, and the node that it takes for the leader, with
 -- the leader's term as far as it knows it.

@@ -1,11 +1,14 @@
 pub mod Answers
 pub mod Asked
 pub mod Beginning
+pub mod Closing
 pub mod Cores
 pub mod Early
 pub mod Full
+pub mod Ids
 pub mod Input
 pub mod Joined
+pub mod Kept
 pub mod Making
 pub mod Opening
 pub mod Parts

@@ -14,17 +14,19 @@ use Rattle.den_model.specs.Step.{Step}
 use Rattle.den_codec.specs.declared.error.Error.{Error}
 use Rattle.den_journal.specs.Causes.{IsRefusal}
 use Rattle.den_journal.specs.Writes.{Faulted, GoesOn, DiskTells}
+use Rattle.den_watch.specs.Registry.{Registry}
 use Rattle.den_core.specs.Full.{IsBegun, IsFullBy, IsSlotTooShort, IsStepTooShort}
 use Rattle.den_core.specs.PayloadSizes.{PayloadSizes}
 use Rattle.den_core.specs.Refusals.{FailsOrStays, HasJoined, IsServeRefusal}
 use Rattle.den_core.specs.Spared.{SparesFamily}
 
--- What is seen of a stepper at a moment: all that it holds; its log; how many entries the log may hold behind a step,
+-- What is seen of a stepper at a moment: all that it holds; who watches, with the events that wait for each; its log; how many entries the log may hold behind a step,
 -- which no call changes; its weight, what its files take or would take when written anew, with what the calls since
 -- handed it, at most; that its state machine is short: few records follow the last checkpoint; that it can go on; that a
 -- refusal left it of no more use; and that its files lie on the disk as its last call left them.
 pub record Seen : Type 1 where
   pub kv : Kv
+  pub waits : Registry
   pub log : Log
   pub most : ℕ
   pub weight : ℕ
@@ -69,6 +71,7 @@ module _ {D : Type 0} (disk : Ghosts D) where
     -- A call left a stepper and the disk as they were: where the stepper could go on it still can.
     pub record IsUntouched : Type 0 where
       pub same_kv : now.kv ≡ was.kv
+      pub same_waits : now.waits ≡ was.waits
       pub same_log : now.log ≡ was.log
       pub same_weight : now.weight ≡ was.weight
       pub same_disk : new ≡ old

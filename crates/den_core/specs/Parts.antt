@@ -1,8 +1,9 @@
 -- What an engine's three stores hold together, and when they are as an engine wants them.
 use Rattle.std.specs.Prelude.{◌≡◌, ◌≤◌, ◌⊎◌, ◌+◌, ℕ, ℤ, Bool, true, [], Option, Some}
 use Rattle.den_model.specs.declared.log_id.HardState.{HardState}
-use Rattle.den_model.specs.declared.running.Running.{Running}
-use Rattle.den_model.specs.Kv.{Durable, Kv}
+use Rattle.den_model.specs.Kv.{Durable, Kv, Running}
+use Rattle.den_watch.specs.Registry.{watchers}
+use Rattle.den_core.specs.declared.run.Run.{Run}
 use Rattle.den_model.specs.Log.{Log, floor, above}
 use Rattle.den_model.specs.MapState.{MapState, part_of}
 use Rattle.den_model.specs.Image.{term_of}
@@ -11,8 +12,18 @@ use Rattle.den_model.specs.Image.{term_of}
 abbrev pub durable_of : Option HardState → MapState → Durable
 durable_of h s = part_of s (term_of h)
 
-abbrev pub kv_of : Option HardState → MapState → Running → Kv
-kv_of h s running = record { durable = durable_of h s; running = running }
+-- the run's part as the definitions see it: what waits for the watchers is not in it
+abbrev pub running_seen : Run → Running
+running_seen r = record {
+  watchers = watchers r.registry;
+  registered = r.registry.registered;
+  cleaned = r.cleaned;
+  members = r.members;
+  setting = record { role = r.role; hint = r.hint; lease = r.lease; interval = r.interval; maximum = r.registry.maximum; buffer = r.registry.buffer };
+}
+
+abbrev pub kv_of : Option HardState → MapState → Run → Kv
+kv_of h s run = record { durable = durable_of h s; running = running_seen run }
 
 -- the hard state of a new term, in which this node votes for itself
 abbrev pub raised_by : (id : ℕ) → Option HardState → HardState
@@ -23,20 +34,18 @@ pub record IsCaughtUp (l : Log) (s : MapState) : Type 0 where
   pub purged : floor l ≤ s.mark.index
   pub applied : above s.mark.index l.entries ≡ []
 
--- The run's part goes with its core and its map: its role is the core's, a lease is configured where the map has one; and
--- nobody watches.
-pub record GoesWith (role : ℤ) (leased : Bool) (running : Running) : Type 0 where
-  pub role_is : running.setting.role ≡ role
-  pub lease_is : running.setting.lease ≡ leased
-  pub unwatched : running.watchers ≡ []
+-- The run's part goes with its core and its map: its role is the core's, and a lease is configured where the map has one.
+pub record GoesWith (role : ℤ) (leased : Bool) (run : Run) : Type 0 where
+  pub role_is : run.role ≡ role
+  pub lease_is : run.lease ≡ leased
 
 -- none of the three stores has failed, and they go together, with the core and the run's part
-pub record IsReady (log_ready meta_ready state_ready : Type 0) (l : Log) (s : MapState) (role : ℤ) (leased : Bool) (running : Running) : Type 0 where
+pub record IsReady (log_ready meta_ready state_ready : Type 0) (l : Log) (s : MapState) (role : ℤ) (leased : Bool) (run : Run) : Type 0 where
   pub log : log_ready
   pub meta : meta_ready
   pub state : state_ready
   pub caught_up : IsCaughtUp l s
-  pub goes_with : GoesWith role leased running
+  pub goes_with : GoesWith role leased run
 
 -- one of the three stores has failed, or a step ended between its writes
 abbrev pub HasFailed : Bool → (log_ready meta_ready state_ready : Type 0) → Type 0

@@ -7,7 +7,7 @@ use Rattle.den_model.specs.declared.request.Frame.TheVariants.{Good, Bad}
 use Rattle.den_model.specs.Sizes.{frame_size, store_rise}
 use Rattle.den_model.specs.Spelling.{command_word}
 use Rattle.den_core.specs.declared.ask.Asked.{Asked}
-use Rattle.den_core.specs.declared.ask.Asked.TheVariants.{Commit, Say}
+use Rattle.den_core.specs.declared.ask.Asked.TheVariants.{Commit, Say, Watch}
 
 -- a cleanup's region has a moment
 abbrev pub clean_rise : ℕ
@@ -53,6 +53,7 @@ write_rise command = commit_rise command + trim_rise
 -- what a frame comes to
 abbrev pub asked_rise : Asked → ℕ
 asked_rise (Commit command) = write_rise command
+asked_rise (Watch key prefix prev_kv) = 0
 asked_rise (Say reply) = 0
 
 -- a term is raised, and its first entry committed

@@ -4,26 +4,34 @@ ghost use Rattle.den_codec.specs.declared.error.Error.TheVariants.{OutOfMemory};
 ghost use Rattle.den_model.specs.declared.reply.ErrorCode.TheVariants.{NotLeader};
 ghost use Rattle.den_model.specs.declared.request.Frame.TheVariants.{Good};
 ghost use Rattle.den_model.specs.Kv.{Durable};
-ghost use Rattle.den_model.specs.Step.{answer, answer_to, answered, command_of, failed, held_pair, is_built, is_leader, may_be_old, read, scan, write};
+ghost use Rattle.den_model.specs.Step.{answer, answer_to, answered, command_of, failed, held_pair, is_leader, may_be_old, read, scan, write};
 ghost use Rattle.den_model.specs.MapState.{part_of};
 ghost use Rattle.den_core.specs.declared.ask.Asked.TheVariants.{Say};
 ghost use Rattle.den_core.specs.Asked.{outcome_of, HasRoom};
+ghost use Rattle.den_core.specs.Parts.{running_seen};
 ghost use Rattle.den_core.specs.Weights.{ask_rise, asked_rise, write_rise};
 
+use crate::Run;
+use crate::members::copy_members;
 use den_codec::{
     Blob, ClientReadRequest, ClientResponse, ClientResponsePayload, Command, Error, ErrorCode,
     Frame, KvEntry, Label, LeaderHint, ReadConsistencyPolicy, Refusal, Reply, Request, Rows,
-    Running, WriteOperation,
+    WriteOperation,
 };
 use den_disk::Disk;
 use den_map::has_ttl;
 use den_state::StateMachine;
 use std::alloc::{AllocError, Global};
 
-/// What a frame comes to: an entry that is committed, or a reply at once.
+/// What a frame comes to: an entry that is committed, a watcher that is registered, or a reply at once.
 #[derive(Debug, Drop)]
 pub(crate) enum Asked {
     Commit(Command),
+    Watch {
+        key: Blob,
+        prefix: bool,
+        prev_kv: bool,
+    },
     Say(Reply),
 }
 
@@ -79,10 +87,10 @@ fn command_of(operation: WriteOperation) -> Command
 }
 
 /// Whether the core leads.
-pub(crate) fn leads(running: &Running) -> bool
-    ensures { result ≡ is_leader running.now.setting.role }
+pub(crate) fn leads(running: &Run) -> bool
+    ensures { result ≡ is_leader running.now.role }
 {
-    running.setting.role == 2
+    running.role == 2
 }
 
 /// The same hint.
@@ -99,11 +107,11 @@ fn copy_hint(alloc: Global, hint: &Option<LeaderHint>) -> Result<Option<LeaderHi
 }
 
 /// What one that does not lead says.
-fn not_leader(alloc: Global, running: &Running) -> Result<Reply, Error>
-    ensures reply { IfOk result (λ reply. reply ≡ failed NotLeader running.now.setting.hint) }
+fn not_leader(alloc: Global, running: &Run) -> Result<Reply, Error>
+    ensures reply { IfOk result (λ reply. reply ≡ failed NotLeader running.now.hint) }
     ensures refused { IfErr result (λ e. e ≡ OutOfMemory) }
 {
-    let leader_hint = copy_hint(alloc, &running.setting.hint)?;
+    let leader_hint = copy_hint(alloc, &running.hint)?;
     Ok(Reply::Response(ClientResponse {
         error: ErrorCode::NotLeader,
         leader_hint,
@@ -115,20 +123,20 @@ fn not_leader(alloc: Global, running: &Running) -> Result<Reply, Error>
 /// What a write comes to behind this index.
 fn ask_write(
     alloc: Global,
-    running: &Running,
+    running: &Run,
     last_index: u64,
     command: Command,
 ) -> Result<Asked, Error>
     ensures asked { IfOk result (λ asked. (d : Durable) (moment : ℕ) → d.last_index ≡ last_index
-        → write (record { durable = d; running = running.now }) moment command ≡ outcome_of (record { durable = d; running = running.now }) moment asked) }
-    ensures room { IfOk result (HasRoom running.now.setting last_index) }
+        → write (record { durable = d; running = running_seen running.now }) moment command ≡ outcome_of (record { durable = d; running = running_seen running.now }) moment asked) }
+    ensures room { IfOk result (HasRoom (running_seen running.now).setting last_index) }
     ensures rise { IfOk result (λ asked. asked_rise asked ≤ write_rise command) }
     ensures refused { IfErr result (λ e. e ≡ OutOfMemory) }
 {
     if !leads(running) {
         return Ok(Asked::Say(not_leader(alloc, running)?));
     }
-    if has_ttl(&command) && !running.setting.lease {
+    if has_ttl(&command) && !running.lease {
         return Ok(Asked::Say(Reply::Refused(Refusal::FeatureNotEnabled)));
     }
     if last_index == u64::MAX {
@@ -185,12 +193,12 @@ fn may_be_old(policy: &Option<ReadConsistencyPolicy>) -> bool
 fn ask_read<D: Disk, M: StateMachine<D>>(
     alloc: Global,
     state: &M,
-    running: &Running,
+    running: &Run,
     request: &ClientReadRequest,
 ) -> Result<Reply, Error>
     ensures said { IfOk result (λ reply. (term moment : ℕ)
-        → read (record { durable = part_of (M.map state.now) term; running = running.now }) request.now.consistency_policy request.now.keys
-        ≡ outcome_of (record { durable = part_of (M.map state.now) term; running = running.now }) moment (Say reply)) }
+        → read (record { durable = part_of (M.map state.now) term; running = running_seen running.now }) request.now.consistency_policy request.now.keys
+        ≡ outcome_of (record { durable = part_of (M.map state.now) term; running = running_seen running.now }) moment (Say reply)) }
     ensures refused { IfErr result (λ e. e ≡ OutOfMemory) }
 {
     if !leads(running) && !may_be_old(&request.consistency_policy) {
@@ -204,12 +212,12 @@ fn ask_read<D: Disk, M: StateMachine<D>>(
 fn ask_scan<D: Disk, M: StateMachine<D>>(
     alloc: Global,
     state: &M,
-    running: &Running,
+    running: &Run,
     prefix: &Blob,
 ) -> Result<Reply, Error>
     ensures said { IfOk result (λ reply. (term moment : ℕ)
-        → scan (record { durable = part_of (M.map state.now) term; running = running.now }) prefix.now
-        ≡ outcome_of (record { durable = part_of (M.map state.now) term; running = running.now }) moment (Say reply)) }
+        → scan (record { durable = part_of (M.map state.now) term; running = running_seen running.now }) prefix.now
+        ≡ outcome_of (record { durable = part_of (M.map state.now) term; running = running_seen running.now }) moment (Say reply)) }
     ensures refused { IfErr result (λ e. e ≡ OutOfMemory) }
 {
     if !leads(running) {
@@ -218,28 +226,17 @@ fn ask_scan<D: Disk, M: StateMachine<D>>(
     Ok(Reply::Scan(state.scan_prefix(prefix.as_slice())?))
 }
 
-/// Whether this version answers the request: writes, reads and scans.
-fn is_built(request: &Request) -> bool
-    ensures { result ≡ is_built request.now }
-{
-    match request {
-        Request::Write(_) | Request::Read(_) | Request::Scan { .. } => true,
-        Request::Watch { .. } | Request::Members { .. } => false,
-    }
-}
-
-/// What a request that this version answers comes to.
+/// What a request comes to.
 fn ask_request<D: Disk, M: StateMachine<D>>(
     alloc: Global,
     state: &M,
-    running: &Running,
+    running: &Run,
     request: Request,
 ) -> Result<Asked, Error>
-    requires built { is_built request ≡ true }
     ensures asked { IfOk result (λ asked. (term moment : ℕ)
-        → answer_to (record { durable = part_of (M.map state.now) term; running = running.now }) moment request
-        ≡ outcome_of (record { durable = part_of (M.map state.now) term; running = running.now }) moment asked) }
-    ensures room { IfOk result (HasRoom running.now.setting (M.map state.now).mark.index) }
+        → answer_to (record { durable = part_of (M.map state.now) term; running = running_seen running.now }) moment request
+        ≡ outcome_of (record { durable = part_of (M.map state.now) term; running = running_seen running.now }) moment asked) }
+    ensures room { IfOk result (HasRoom (running_seen running.now).setting (M.map state.now).mark.index) }
     ensures rise { IfOk result (λ asked. asked_rise asked ≤ ask_rise (Good request)) }
     ensures refused { IfErr result (λ e. e ≡ OutOfMemory) }
 {
@@ -257,31 +254,39 @@ fn ask_request<D: Disk, M: StateMachine<D>>(
         Request::Scan { prefix, .. } => {
             Ok(Asked::Say(ask_scan::<D, M>(alloc, state, running, &prefix)?))
         }
-        Request::Watch { .. } | Request::Members { .. } => {
-            Ok(Asked::Say(Reply::Refused(Refusal::NotBuilt)))
-        }
+        Request::Watch {
+            prefix,
+            prev_kv,
+            key,
+            ..
+        } => Ok(Asked::Watch {
+            key,
+            prefix,
+            prev_kv,
+        }),
+        Request::Members { .. } => Ok(Asked::Say(Reply::Members(copy_members(
+            alloc,
+            &running.members,
+        )?))),
     }
 }
 
-/// What a frame comes to. A bad one is an invalid request, and a request that is not built yet is refused by name.
+/// What a frame comes to. A bad one is an invalid request.
 pub(crate) fn ask<D: Disk, M: StateMachine<D>>(
     alloc: Global,
     state: &M,
-    running: &Running,
+    running: &Run,
     frame: Frame,
 ) -> Result<Asked, Error>
     ensures asked { IfOk result (λ asked. (term moment : ℕ)
-        → answer (record { durable = part_of (M.map state.now) term; running = running.now }) moment frame
-        ≡ outcome_of (record { durable = part_of (M.map state.now) term; running = running.now }) moment asked) }
-    ensures room { IfOk result (HasRoom running.now.setting (M.map state.now).mark.index) }
+        → answer (record { durable = part_of (M.map state.now) term; running = running_seen running.now }) moment frame
+        ≡ outcome_of (record { durable = part_of (M.map state.now) term; running = running_seen running.now }) moment asked) }
+    ensures room { IfOk result (HasRoom (running_seen running.now).setting (M.map state.now).mark.index) }
     ensures rise { IfOk result (λ asked. asked_rise asked ≤ ask_rise frame) }
     ensures refused { IfErr result (λ e. e ≡ OutOfMemory) }
 {
     match frame {
-        Frame::Good(request) if is_built(&request) => ask_request::<D, M>(
-            alloc, state, running, request,
-        ),
-        Frame::Good(_) => Ok(Asked::Say(Reply::Refused(Refusal::NotBuilt))),
+        Frame::Good(request) => ask_request::<D, M>(alloc, state, running, request),
         Frame::Bad => Ok(Asked::Say(failed(ErrorCode::InvalidRequest))),
     }
 }

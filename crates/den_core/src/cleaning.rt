@@ -19,12 +19,13 @@ pub(crate) fn clean<D: Disk, G: LogStore<D>, T: MetaStore<D>, M: StateMachine<D>
     time: u64,
 ) -> Result<bool, Error>
     requires stands { CanGoOn D.Disk (⟦<Engine<G, T, M, K> as Stepper<D>>⟧.seen engine.old) disk.old }
-    requires lease { engine.old.running.setting.lease ≡ true }
+    requires lease { engine.old.running.lease ≡ true }
     requires time { 1 ≤ time }
     ensures makes { Makes D.Disk (⟦<Engine<G, T, M, K> as Stepper<D>>⟧.seen engine.old) (⟦<Engine<G, T, M, K> as Stepper<D>>⟧.seen engine.new) disk.old disk.new ⟦<Engine<G, T, M, K> as Stepper<D>>⟧.says
         (Cleanup time ∷ []) clean_rise (IsCallTooShort (⟦<Engine<G, T, M, K> as Stepper<D>>⟧.seen engine.old) (Cleanup time ∷ [])) (HasCleaned (⟦<Engine<G, T, M, K> as Stepper<D>>⟧.seen engine.old).kv (Cleanup time ∷ [])) result }
     ensures log { (⟦<Engine<G, T, M, K> as Stepper<D>>⟧.seen engine.new).log ≡ (⟦<Engine<G, T, M, K> as Stepper<D>>⟧.seen engine.old).log }
     ensures took { IfOk result (λ took. took ≡ has_due time (M.map engine.old.state).expiries) }
+    ensures registry { engine.new.running.registry ≡ engine.old.running.registry }
     ensures idle { IfOk result (λ took. took ≡ false
         → (engine.new ≡ record engine.old { running = record engine.old.running { cleaned = Some time } }) × (disk.new ≡ disk.old)) }
     ensures state_short { OnOk result ((⟦<Engine<G, T, M, K> as Stepper<D>>⟧.seen engine.old).short → (⟦<Engine<G, T, M, K> as Stepper<D>>⟧.seen engine.new).short) }

@@ -8,7 +8,7 @@ ghost use Rattle.den_model.specs.Step.{next_entry};
 ghost use Rattle.den_core.specs.Asked.{MayCommit};
 ghost use Rattle.den_core.specs.Full.{IsSlotTooShort};
 ghost use Rattle.den_core.specs.Making.{CanGoOn, ChangesStores, LogIsShort, Makes};
-ghost use Rattle.den_core.specs.Parts.{IsReady};
+ghost use Rattle.den_core.specs.Parts.{running_seen, IsReady};
 ghost use Rattle.den_core.specs.PayloadSizes.{entry_sizes, map_of, trim_sizes};
 ghost use Rattle.den_core.specs.Trimmed.{logged_after, mark_of, trimmed};
 ghost use Rattle.den_core.specs.Weights.{commit_rise, trim_rise, write_rise};
@@ -32,7 +32,7 @@ fn commit<D: Disk, G: LogStore<D>, T: MetaStore<D>, M: StateMachine<D>, K: Core<
     requires ready { IsReady (G.shown engine.old.log).ready (T.shown engine.old.meta).ready (M.shown engine.old.state).ready
         (G.shown engine.old.log).value (M.map engine.old.state) (K.view engine.old.core).role (M.settings engine.old.state).leased engine.old.running }
     requires rests { IsTrue (D.kind disk.old).tells → (⟦<Engine<G, T, M, K> as Stepper<D>>⟧.seen engine.old).rests (D.content disk.old) }
-    requires may { MayCommit engine.old.running.setting (M.map engine.old.state).mark.index command }
+    requires may { MayCommit (running_seen engine.old.running).setting (M.map engine.old.state).mark.index command }
     requires time { 1 ≤ time }
     ensures makes { ChangesStores D.Disk (⟦<Engine<G, T, M, K> as Stepper<D>>⟧.seen engine.old) (⟦<Engine<G, T, M, K> as Stepper<D>>⟧.seen engine.new) disk.old disk.new ⟦<Engine<G, T, M, K> as Stepper<D>>⟧.says
         (applied (⟦<Engine<G, T, M, K> as Stepper<D>>⟧.seen engine.old).kv.durable (next_entry (⟦<Engine<G, T, M, K> as Stepper<D>>⟧.seen engine.old).kv time command))
@@ -105,7 +105,7 @@ pub(crate) fn commit_and_trim<
     requires ready { IsReady (G.shown engine.old.log).ready (T.shown engine.old.meta).ready (M.shown engine.old.state).ready
         (G.shown engine.old.log).value (M.map engine.old.state) (K.view engine.old.core).role (M.settings engine.old.state).leased engine.old.running }
     requires rests { IsTrue (D.kind disk.old).tells → (⟦<Engine<G, T, M, K> as Stepper<D>>⟧.seen engine.old).rests (D.content disk.old) }
-    requires may { MayCommit engine.old.running.setting (M.map engine.old.state).mark.index command }
+    requires may { MayCommit (running_seen engine.old.running).setting (M.map engine.old.state).mark.index command }
     requires time { 1 ≤ time }
     ensures makes { ChangesStores D.Disk (⟦<Engine<G, T, M, K> as Stepper<D>>⟧.seen engine.old) (⟦<Engine<G, T, M, K> as Stepper<D>>⟧.seen engine.new) disk.old disk.new ⟦<Engine<G, T, M, K> as Stepper<D>>⟧.says
         (applied (⟦<Engine<G, T, M, K> as Stepper<D>>⟧.seen engine.old).kv.durable (next_entry (⟦<Engine<G, T, M, K> as Stepper<D>>⟧.seen engine.old).kv time command))

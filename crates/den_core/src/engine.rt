@@ -3,22 +3,23 @@ ghost use Rattle.std.specs.Prelude.{◌≡◌, ◌⊎◌, ◌≤◌, ◌+◌, Is
 ghost use Rattle.den_disk.specs.Files.{Content};
 ghost use Rattle.den_model.specs.Image.{joined};
 ghost use Rattle.den_model.specs.Kv.{Durable};
-ghost use Rattle.den_model.specs.Plan.{due_cleanup, first_cleanup, is_due, logged, output, turn};
-ghost use Rattle.den_model.specs.Step.{Ask};
-ghost use Rattle.den_core.specs.Answers.{frames_of};
+ghost use Rattle.den_model.specs.Plan.{due_cleanup, first_cleanup, is_due, logged, turn};
+ghost use Rattle.den_model.specs.Step.{answer, Ask};
+ghost use Rattle.den_core.specs.Kept.{asked_of, IsTurned};
 ghost use Rattle.den_core.specs.Making.{CanGoOn, IsCallTooShort, LogIsShort, Makes};
-ghost use Rattle.den_core.specs.Parts.{kv_of, AllRest, GoesWith, HasFailed, IsCaughtUp, IsReady};
+ghost use Rattle.den_core.specs.Parts.{kv_of, running_seen, AllRest, GoesWith, HasFailed, IsCaughtUp, IsReady};
 ghost use Rattle.den_core.specs.Refusals.{HasCleaned, HasJoined};
 ghost use Rattle.den_core.specs.Trimmed.{logged_after, mark_of};
 ghost use Rattle.den_core.specs.Weights.{ask_rise, clean_rise, frame_rise};
 ghost use Rattle.den_state.specs.Machine.{AtRest, rest_hold};
 
-use crate::ask::{Asked, answered, ask, leads};
+use crate::ask::{Asked, ask, leads};
 use crate::cleaning::clean;
 use crate::commits::commit_and_trim;
 use crate::terms::begin_term;
-use crate::{Core, StepOut, Stepper};
-use den_codec::{ClientResponsePayload, Error, Frame, Reply, Rows, Running};
+use crate::watching::{Turned, register, said, tell, told};
+use crate::{Core, Run, StepOut, Stepper};
+use den_codec::{Error, Frame, Reply};
 use den_disk::Disk;
 use den_state::StateMachine;
 use den_store::{LogStore, MetaStore};
@@ -32,7 +33,7 @@ pub struct Engine<G, T, M, K> {
     pub(crate) meta: T,
     pub(crate) state: M,
     pub(crate) core: K,
-    pub(crate) running: Running,
+    pub(crate) running: Run,
     /// How many entries the log may hold behind a step.
     pub(crate) most: u64,
     pub(crate) failed: bool,
@@ -48,7 +49,7 @@ impl<G, T, M, K> Engine<G, T, M, K> {
         meta: T,
         state: M,
         core: K,
-        running: Running,
+        running: Run,
         most: u64,
     ) -> Engine<G, T, M, K>
     where
@@ -64,6 +65,7 @@ impl<G, T, M, K> Engine<G, T, M, K> {
         ensures kv { (⟦<Engine<G, T, M, K> as Stepper<D>>⟧.seen result).kv ≡ kv_of (T.shown meta).value (M.map state) running }
         ensures log { (⟦<Engine<G, T, M, K> as Stepper<D>>⟧.seen result).log ≡ (G.shown log).value }
         ensures state { result.state ≡ state }
+        ensures waits { (⟦<Engine<G, T, M, K> as Stepper<D>>⟧.seen result).waits ≡ running.registry }
         ensures most { (⟦<Engine<G, T, M, K> as Stepper<D>>⟧.seen result).most ≡ most }
         ensures ready { (⟦<Engine<G, T, M, K> as Stepper<D>>⟧.seen result).ready }
         ensures weight { (⟦<Engine<G, T, M, K> as Stepper<D>>⟧.seen result).weight ≡ (G.shown log).weight + (T.shown meta).weight + (M.shown state).weight }
@@ -83,42 +85,50 @@ impl<G, T, M, K> Engine<G, T, M, K> {
     }
 }
 
-/// What a frame asks for: makes its step, and answers its reply. Nobody watches, so it raises no event.
+/// What a frame asks for: makes its step. Those who watch are told only where it is made.
 fn answer<D: Disk, G: LogStore<D>, T: MetaStore<D>, M: StateMachine<D>, K: Core<D>>(
     engine: &mut Engine<G, T, M, K>,
     disk: &mut D,
     frame: Frame,
     time: u64,
-) -> Result<Reply, Error>
+) -> Result<Turned, Error>
     requires stands { CanGoOn D.Disk (⟦<Engine<G, T, M, K> as Stepper<D>>⟧.seen engine.old) disk.old }
     requires time { 1 ≤ time }
     ensures makes { Makes D.Disk (⟦<Engine<G, T, M, K> as Stepper<D>>⟧.seen engine.old) (⟦<Engine<G, T, M, K> as Stepper<D>>⟧.seen engine.new) disk.old disk.new ⟦<Engine<G, T, M, K> as Stepper<D>>⟧.says
         (Ask frame time ∷ []) (ask_rise frame) (IsCallTooShort (⟦<Engine<G, T, M, K> as Stepper<D>>⟧.seen engine.old) (Ask frame time ∷ []))
         (HasJoined (⟦<Engine<G, T, M, K> as Stepper<D>>⟧.seen engine.old).log (logged (⟦<Engine<G, T, M, K> as Stepper<D>>⟧.seen engine.old).kv (Ask frame time ∷ [])) (⟦<Engine<G, T, M, K> as Stepper<D>>⟧.seen engine.new).log) result }
-    ensures answered { IfOk result (λ reply. frames_of reply [] ≡ output (⟦<Engine<G, T, M, K> as Stepper<D>>⟧.seen engine.old).kv (Ask frame time ∷ [])) }
     ensures trimmed { OnOk result ((⟦<Engine<G, T, M, K> as Stepper<D>>⟧.seen engine.new).log
         ≡ logged_after (⟦<Engine<G, T, M, K> as Stepper<D>>⟧.seen engine.old).most (mark_of (⟦<Engine<G, T, M, K> as Stepper<D>>⟧.seen engine.new).kv.durable) (⟦<Engine<G, T, M, K> as Stepper<D>>⟧.seen engine.old).log (logged (⟦<Engine<G, T, M, K> as Stepper<D>>⟧.seen engine.old).kv (Ask frame time ∷ []))) }
     ensures short { OnOk result (LogIsShort (⟦<Engine<G, T, M, K> as Stepper<D>>⟧.seen engine.old) → LogIsShort (⟦<Engine<G, T, M, K> as Stepper<D>>⟧.seen engine.new)) }
     ensures state_short { OnOk result ((⟦<Engine<G, T, M, K> as Stepper<D>>⟧.seen engine.old).short → (⟦<Engine<G, T, M, K> as Stepper<D>>⟧.seen engine.new).short) }
+    ensures turned { IfOk result (λ turned. IsTurned (answer (⟦<Engine<G, T, M, K> as Stepper<D>>⟧.seen engine.old).kv time frame) engine.old.running.registry engine.new.running.registry turned) }
     ensures running { IfErr result (λ e. engine.new.running ≡ engine.old.running) }
 {
     match ask::<D, M>(engine.alloc, &engine.state, &engine.running, frame)? {
         Asked::Commit(command) => {
+            let registry = &engine.running.registry;
+            let telling = tell::<D, M>(engine.alloc, registry, &engine.state, &command)?;
             let succeeded = commit_and_trim(engine, disk, command, time)?;
-            Ok(answered(ClientResponsePayload::Write { succeeded }))
+            Ok(told(engine.alloc, telling, succeeded))
         }
-        Asked::Say(reply) => Ok(reply),
+        Asked::Watch {
+            key,
+            prefix,
+            prev_kv,
+        } => {
+            let reply = register(&mut engine.running, key, prefix, prev_kv)?;
+            Ok(said(engine.alloc, reply))
+        }
+        Asked::Say(reply) => Ok(said(engine.alloc, reply)),
     }
 }
 
 /// Whether a cleanup is due.
-fn is_due(running: &Running, time: u64) -> bool
-    ensures { (d : Durable) → result ≡ is_due (record { durable = d; running = running.now }) time }
+fn is_due(running: &Run, time: u64) -> bool
+    ensures { (d : Durable) → result ≡ is_due (record { durable = d; running = running_seen running.now }) time }
 {
     match running.cleaned {
-        Some(last) => {
-            running.setting.lease && time >= last && time - last >= running.setting.interval
-        }
+        Some(last) => { running.lease && time >= last && time - last >= running.interval }
         None => false,
     }
 }
@@ -136,6 +146,7 @@ fn clean_due<D: Disk, G: LogStore<D>, T: MetaStore<D>, M: StateMachine<D>, K: Co
         (HasCleaned (⟦<Engine<G, T, M, K> as Stepper<D>>⟧.seen engine.old).kv (due_cleanup (⟦<Engine<G, T, M, K> as Stepper<D>>⟧.seen engine.old).kv time)) result }
     ensures log { (⟦<Engine<G, T, M, K> as Stepper<D>>⟧.seen engine.new).log ≡ (⟦<Engine<G, T, M, K> as Stepper<D>>⟧.seen engine.old).log }
     ensures took { IfOk result (λ took. took ≡ true → HasCleaned (⟦<Engine<G, T, M, K> as Stepper<D>>⟧.seen engine.old).kv (due_cleanup (⟦<Engine<G, T, M, K> as Stepper<D>>⟧.seen engine.old).kv time)) }
+    ensures registry { engine.new.running.registry ≡ engine.old.running.registry }
     ensures idle { IfOk result (λ took. took ≡ false
         → (engine.new ≡ record engine.old { running = engine.new.running }) × (record engine.new.running { cleaned = engine.old.running.cleaned } ≡ engine.old.running) × (disk.new ≡ disk.old)) }
     ensures state_short { OnOk result ((⟦<Engine<G, T, M, K> as Stepper<D>>⟧.seen engine.old).short → (⟦<Engine<G, T, M, K> as Stepper<D>>⟧.seen engine.new).short) }
@@ -160,12 +171,12 @@ fn leave<G, T, M, K>(engine: &mut Engine<G, T, M, K>, took: bool, cleaned: Optio
 }
 
 /// A frame's turn: the cleanup that is due, and what it asks for.
-fn take_turn<D: Disk, G: LogStore<D>, T: MetaStore<D>, M: StateMachine<D>, K: Core<D>>(
+pub(crate) fn take_turn<D: Disk, G: LogStore<D>, T: MetaStore<D>, M: StateMachine<D>, K: Core<D>>(
     engine: &mut Engine<G, T, M, K>,
     disk: &mut D,
     frame: Frame,
     time: u64,
-) -> Result<Reply, Error>
+) -> Result<Turned, Error>
     requires stands { CanGoOn D.Disk (⟦<Engine<G, T, M, K> as Stepper<D>>⟧.seen engine.old) disk.old }
     requires time { 1 ≤ time }
     ensures makes { Makes D.Disk (⟦<Engine<G, T, M, K> as Stepper<D>>⟧.seen engine.old) (⟦<Engine<G, T, M, K> as Stepper<D>>⟧.seen engine.new) disk.old disk.new ⟦<Engine<G, T, M, K> as Stepper<D>>⟧.says
@@ -176,12 +187,12 @@ fn take_turn<D: Disk, G: LogStore<D>, T: MetaStore<D>, M: StateMachine<D>, K: Co
         ≡ logged_after (⟦<Engine<G, T, M, K> as Stepper<D>>⟧.seen engine.old).most (mark_of (⟦<Engine<G, T, M, K> as Stepper<D>>⟧.seen engine.new).kv.durable) (⟦<Engine<G, T, M, K> as Stepper<D>>⟧.seen engine.old).log (logged (⟦<Engine<G, T, M, K> as Stepper<D>>⟧.seen engine.old).kv (turn (⟦<Engine<G, T, M, K> as Stepper<D>>⟧.seen engine.old).kv frame time))) }
     ensures short { OnOk result (LogIsShort (⟦<Engine<G, T, M, K> as Stepper<D>>⟧.seen engine.old) → LogIsShort (⟦<Engine<G, T, M, K> as Stepper<D>>⟧.seen engine.new)) }
     ensures state_short { OnOk result ((⟦<Engine<G, T, M, K> as Stepper<D>>⟧.seen engine.old).short → (⟦<Engine<G, T, M, K> as Stepper<D>>⟧.seen engine.new).short) }
-    ensures answered { IfOk result (λ reply. frames_of reply [] ≡ output (⟦<Engine<G, T, M, K> as Stepper<D>>⟧.seen engine.old).kv (turn (⟦<Engine<G, T, M, K> as Stepper<D>>⟧.seen engine.old).kv frame time)) }
+    ensures turned { IfOk result (λ turned. IsTurned (asked_of (⟦<Engine<G, T, M, K> as Stepper<D>>⟧.seen engine.old).kv frame time) engine.old.running.registry engine.new.running.registry turned) }
 {
     let cleaned = engine.running.cleaned;
     let took = clean_due(engine, disk, time)?;
     match answer(engine, disk, frame, time) {
-        Ok(reply) => Ok(reply),
+        Ok(turned) => Ok(turned),
         Err(error) => {
             leave(engine, took, cleaned);
             Err(error)
@@ -202,10 +213,11 @@ fn clean_first<D: Disk, G: LogStore<D>, T: MetaStore<D>, M: StateMachine<D>, K: 
         (first_cleanup (⟦<Engine<G, T, M, K> as Stepper<D>>⟧.seen engine.old).kv time) clean_rise (IsCallTooShort (⟦<Engine<G, T, M, K> as Stepper<D>>⟧.seen engine.old) (first_cleanup (⟦<Engine<G, T, M, K> as Stepper<D>>⟧.seen engine.old).kv time))
         (HasCleaned (⟦<Engine<G, T, M, K> as Stepper<D>>⟧.seen engine.old).kv (first_cleanup (⟦<Engine<G, T, M, K> as Stepper<D>>⟧.seen engine.old).kv time) ⊎ (begun ≡ true)) result }
     ensures log { (⟦<Engine<G, T, M, K> as Stepper<D>>⟧.seen engine.new).log ≡ (⟦<Engine<G, T, M, K> as Stepper<D>>⟧.seen engine.old).log }
+    ensures registry { engine.new.running.registry ≡ engine.old.running.registry }
     ensures failed { IfErr result (λ e. begun ≡ true → (⟦<Engine<G, T, M, K> as Stepper<D>>⟧.seen engine.new).failed × ((⟦<Engine<G, T, M, K> as Stepper<D>>⟧.seen engine.new).kv.durable.term ≡ (⟦<Engine<G, T, M, K> as Stepper<D>>⟧.seen engine.old).kv.durable.term)) }
     ensures state_short { OnOk result ((⟦<Engine<G, T, M, K> as Stepper<D>>⟧.seen engine.old).short → (⟦<Engine<G, T, M, K> as Stepper<D>>⟧.seen engine.new).short) }
 {
-    if !engine.running.setting.lease {
+    if !engine.running.lease {
         return Ok(());
     }
     match clean(engine, disk, time) {
@@ -223,6 +235,7 @@ impl<D: Disk, G: LogStore<D>, T: MetaStore<D>, M: StateMachine<D>, K: Core<D>> S
 
     ghost seen = { λ e. record {
       kv = kv_of (T.shown e.meta).value (M.map e.state) e.running;
+      waits = e.running.registry;
       log = (G.shown e.log).value;
       most = e.most;
       weight = (G.shown e.log).weight + (T.shown e.meta).weight + (M.shown e.state).weight;
@@ -255,11 +268,8 @@ impl<D: Disk, G: LogStore<D>, T: MetaStore<D>, M: StateMachine<D>, K: Core<D>> S
     }
 
     fn step(&mut self, disk: &mut D, frame: Frame, time: u64) -> Result<StepOut, Error> {
-        let reply = take_turn(self, disk, frame, time)?;
-        Ok(StepOut {
-            reply,
-            events: Rows::of(Vec::new(self.alloc)),
-        })
+        let turned = take_turn(self, disk, frame, time)?;
+        Ok(turned.out)
     }
 
     fn is_failed(&self) -> bool {

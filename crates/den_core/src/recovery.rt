@@ -17,19 +17,21 @@ ghost use Rattle.den_map.specs.Order.{out_of_order};
 ghost use Rattle.den_journal.specs.Causes.{IsRefusal};
 ghost use Rattle.den_core.specs.Opening.{agrees, opening_refusal, refusal_by, IsLeft, IsOpeningFailure};
 ghost use Rattle.den_core.specs.Cores.{running_under};
-ghost use Rattle.den_core.specs.Parts.{GoesWith, AllRest};
+ghost use Rattle.den_core.specs.Parts.{running_seen, GoesWith, AllRest};
 ghost use Rattle.den_core.specs.Spared.{SparesFamily};
 ghost use Rattle.den_state.specs.Machine.{AtRest};
+ghost use Rattle.den_watch.specs.Registry.{nobody};
 
 use crate::applying::apply_at_rest;
 use crate::nodes::copy_nodes;
 use crate::terms::current_term;
-use crate::{Core, Engine, Stepper};
-use den_codec::{Entry, Error, RaftNodeConfig, Rows, Running, Setting};
+use crate::{Core, Engine, Run, Stepper};
+use den_codec::{ClusterMembership, Entry, Error, RaftNodeConfig, Rows};
 use den_disk::Disk;
 use den_map::asks_lease;
 use den_state::StateMachine;
 use den_store::{LogStore, MetaStore};
+use den_watch::WatchRegistry;
 use std::alloc::Global;
 
 /// Whether the indices run on behind this one without a gap.
@@ -53,30 +55,36 @@ fn lacks_lease<D: Disk, M: StateMachine<D>>(state: &M, entries: &[Entry]) -> boo
     !state.has_lease() && (state.holds_expiry() || asks_lease(entries))
 }
 
-/// The run's part as a run begins under a core, with leases or without.
+/// The run's part as a run begins under a core, with leases or without: nobody watches.
 fn running_under<D: Disk, K: Core<D>>(
     alloc: Global,
     config: &RaftNodeConfig,
     core: &K,
     leased: bool,
-) -> Result<Running, Error>
-    ensures running { IfOk result (λ running. running ≡ running_under config.now (K.view core.now) leased) }
+) -> Result<Run, Error>
+    ensures running { IfOk result (λ run. running_seen run ≡ running_under config.now (K.view core.now) leased) }
+    ensures nobody { IfOk result (λ run. run.registry ≡ nobody config.now.raft.watch.watcher_buffer_size config.now.raft.watch.max_watcher_count) }
+    ensures goes_with { IfOk result (λ run. GoesWith (K.view core.now).role leased run) }
     ensures refused { IfErr result (λ e. e ≡ OutOfMemory) }
 {
-    let nodes = copy_nodes(alloc, config.cluster.initial_cluster.as_slice())?;
-    let setting = Setting {
-        role: core.role(),
-        hint: core.hint(alloc)?,
-        lease: leased,
-        interval: config.raft.lease.cleanup_interval_ms,
-        maximum: config.raft.watch.max_watcher_count,
-        buffer: config.raft.watch.watcher_buffer_size,
-    };
+    let watch = &config.raft.watch;
     let leader = match core.leader() {
         Some(leader) => Some(leader.leader_id),
         None => None,
     };
-    Ok(Running::at_entry(alloc, setting, nodes, leader))
+    Ok(Run {
+        registry: WatchRegistry::new(alloc, watch.watcher_buffer_size, watch.max_watcher_count),
+        cleaned: None,
+        members: ClusterMembership {
+            version: 0,
+            nodes: copy_nodes(alloc, config.cluster.initial_cluster.as_slice())?,
+            current_leader_id: leader,
+        },
+        role: core.role(),
+        hint: core.hint(alloc)?,
+        lease: leased,
+        interval: config.raft.lease.cleanup_interval_ms,
+    })
 }
 
 /// The index of the last entry, or this one.
@@ -193,7 +201,7 @@ fn catch_up<D: Disk, G: LogStore<D>, T: MetaStore<D>, M: StateMachine<D>, K: Cor
     meta: T,
     state: M,
     core: K,
-    running: Running,
+    running: Run,
     most: u64,
     entries: &[Entry],
 ) -> Result<Engine<G, T, M, K>, Error>
@@ -208,11 +216,12 @@ fn catch_up<D: Disk, G: LogStore<D>, T: MetaStore<D>, M: StateMachine<D>, K: Cor
     ensures snapshot { IsTrue (D.kind disk.old).tells → SparesFamily snapshot_family D.content D.moment D.images disk.old disk.new }
     ensures survives { (kept : Durable) → IsTrue (D.kind disk.old).tells → ⟦<Engine<G, T, M, K> as Stepper<D>>⟧.says.told → durable (G.shown log).value (T.shown meta).value (M.map state) ≡ Some kept
         → Survives ⟦<Engine<G, T, M, K> as Stepper<D>>⟧.says.holds (D.images disk.new) (D.moment disk.old) (D.moment disk.new) []
-        (record { durable = kept; running = running }) [] }
+        (record { durable = kept; running = running_seen running }) [] }
     ensures opened { IfOk result (λ engine. durable (G.shown log).value (T.shown meta).value (M.map state) ≡ Some (⟦<Engine<G, T, M, K> as Stepper<D>>⟧.seen engine).kv.durable) }
     ensures started { IfOk result (λ engine. (M.settings engine.state).running ≡ true) }
-    ensures running { IfOk result (λ engine. (⟦<Engine<G, T, M, K> as Stepper<D>>⟧.seen engine).kv.running ≡ running) }
+    ensures running { IfOk result (λ engine. (⟦<Engine<G, T, M, K> as Stepper<D>>⟧.seen engine).kv.running ≡ running_seen running) }
     ensures log { IfOk result (λ engine. (⟦<Engine<G, T, M, K> as Stepper<D>>⟧.seen engine).log ≡ (G.shown log).value) }
+    ensures waits { IfOk result (λ engine. (⟦<Engine<G, T, M, K> as Stepper<D>>⟧.seen engine).waits ≡ running.registry) }
     ensures most { IfOk result (λ engine. (⟦<Engine<G, T, M, K> as Stepper<D>>⟧.seen engine).most ≡ most) }
     ensures ready { IfOk result (λ engine. (⟦<Engine<G, T, M, K> as Stepper<D>>⟧.seen engine).ready) }
     ensures rests { IfOk result (λ engine. IsTrue (D.kind disk.old).tells → (⟦<Engine<G, T, M, K> as Stepper<D>>⟧.seen engine).rests (D.content disk.new)) }
@@ -254,6 +263,7 @@ pub fn recover<D: Disk, G: LogStore<D>, T: MetaStore<D>, M: StateMachine<D>, K: 
     ensures started { IfOk result (λ engine. (M.settings engine.state).running ≡ true) }
     ensures running { IfOk result (λ engine. (⟦<Engine<G, T, M, K> as Stepper<D>>⟧.seen engine).kv.running ≡ running_under config.now (K.view core) (M.settings state).leased) }
     ensures log { IfOk result (λ engine. (⟦<Engine<G, T, M, K> as Stepper<D>>⟧.seen engine).log ≡ (G.shown log).value) }
+    ensures waits { IfOk result (λ engine. (⟦<Engine<G, T, M, K> as Stepper<D>>⟧.seen engine).waits ≡ nobody config.now.raft.watch.watcher_buffer_size config.now.raft.watch.max_watcher_count) }
     ensures most { IfOk result (λ engine. (⟦<Engine<G, T, M, K> as Stepper<D>>⟧.seen engine).most ≡ config.now.raft.max_log_entries) }
     ensures ready { IfOk result (λ engine. (⟦<Engine<G, T, M, K> as Stepper<D>>⟧.seen engine).ready) }
     ensures rests { IfOk result (λ engine. IsTrue (D.kind disk.old).tells → (⟦<Engine<G, T, M, K> as Stepper<D>>⟧.seen engine).rests (D.content disk.new)) }

@@ -1,8 +1,9 @@
 //! What the loop over frames sees of an engine.
-ghost use Rattle.std.specs.Prelude.{◌≡◌, ◌↔◌, ◌⊎◌, ◌<◌, ◌≤◌, ◌^◌, ◌+◌, ◌-◌, IsTrue, OnOk, IfOk, true};
+ghost use Rattle.std.specs.Prelude.{◌≡◌, ◌↔◌, ◌⊎◌, ◌<◌, ◌≤◌, ◌^◌, ◌+◌, ◌-◌, IsTrue, OnOk, IfOk, true, Some};
 ghost use Rattle.den_model.specs.Plan.{logged, output, opening, turn};
 ghost use Rattle.den_model.specs.Step.{leads};
 ghost use Rattle.den_core.specs.Answers.{frames_of};
+ghost use Rattle.den_core.specs.Kept.{asked_of, grown};
 ghost use Rattle.den_core.specs.Making.{Agrees, CanGoOn, IsCallTooShort, LogIsShort, Makes, Says, Seen};
 ghost use Rattle.den_core.specs.Refusals.{HasCleaned, HasJoined};
 ghost use Rattle.den_core.specs.Trimmed.{logged_after, mark_of};
@@ -41,9 +42,11 @@ pub trait Stepper<D: Disk>: Drop {
             ≡ logged_after (seen self.old).most (mark_of (seen self.new).kv.durable) (seen self.old).log (logged (seen self.old).kv (opening (seen self.old).kv time))) }
         ensures short { OnOk result (leads (seen self.old).kv ≡ true → LogIsShort (seen self.new)) }
         ensures state_short { OnOk result (leads (seen self.old).kv ≡ true → (seen self.new).short) }
-        ensures state_kept { OnOk result ((seen self.old).short → (seen self.new).short) };
+        ensures state_kept { OnOk result ((seen self.old).short → (seen self.new).short) }
+        ensures waits { OnOk result ((seen self.new).waits ≡ (seen self.old).waits) };
 
-    /// Makes a frame's steps, and answers what is to be sent. A log that was short stays so: where the steps log an entry it
+    /// Makes a frame's steps, and answers what is to be sent: the step's reply and events. Who registered waits with nothing, and
+    /// nothing more waits for anybody. A log that was short stays so: where the steps log an entry it
     /// is purged up to the mark, only where its indices run over too many. Where memory is wanting behind a write, expired
     /// keys are gone, or the steps' entries are in the log.
     fn step(&mut self, disk: &mut D, frame: Frame, time: u64) -> Result<StepOut, Error>
@@ -57,6 +60,8 @@ pub trait Stepper<D: Disk>: Drop {
             ≡ logged_after (seen self.old).most (mark_of (seen self.new).kv.durable) (seen self.old).log (logged (seen self.old).kv (turn (seen self.old).kv frame time))) }
         ensures short { OnOk result (LogIsShort (seen self.old) → LogIsShort (seen self.new)) }
         ensures state_short { OnOk result ((seen self.old).short → (seen self.new).short) }
+        ensures waits { OnOk result ((seen self.new).waits ≡ grown (seen self.old).waits (seen self.new).kv.running) }
+        ensures values { IfOk result (λ out. ((asked_of (seen self.old).kv frame time).reply ≡ Some out.reply) × ((asked_of (seen self.old).kv frame time).events ≡ out.events)) }
         ensures answer { IfOk result (λ out. frames_of out.reply out.events ≡ output (seen self.old).kv (turn (seen self.old).kv frame time)) };
 
     /// Whether a refusal left it of no more use. It is opened anew then.

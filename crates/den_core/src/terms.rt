@@ -59,7 +59,7 @@ pub(crate) fn begin_term<D: Disk, G: LogStore<D>, T: MetaStore<D>, M: StateMachi
     time: u64,
 ) -> Result<(), Error>
     requires stands { CanGoOn D.Disk (⟦<Engine<G, T, M, K> as Stepper<D>>⟧.seen engine.old) disk.old }
-    requires leads { is_leader engine.old.running.setting.role ≡ true }
+    requires leads { is_leader engine.old.running.role ≡ true }
     requires time { 1 ≤ time }
     requires term { (⟦<Engine<G, T, M, K> as Stepper<D>>⟧.seen engine.old).kv.durable.term < 2 ^ 64 - 1 }
     requires index { (⟦<Engine<G, T, M, K> as Stepper<D>>⟧.seen engine.old).kv.durable.last_index < 2 ^ 64 - 1 }
@@ -68,6 +68,7 @@ pub(crate) fn begin_term<D: Disk, G: LogStore<D>, T: MetaStore<D>, M: StateMachi
         ((⟦<Engine<G, T, M, K> as Stepper<D>>⟧.seen engine.new).kv.durable.term ≡ (⟦<Engine<G, T, M, K> as Stepper<D>>⟧.seen engine.old).kv.durable.term + 1) result }
     ensures log { OnOk result ((⟦<Engine<G, T, M, K> as Stepper<D>>⟧.seen engine.new).log
         ≡ logged_after (⟦<Engine<G, T, M, K> as Stepper<D>>⟧.seen engine.old).most (mark_of (⟦<Engine<G, T, M, K> as Stepper<D>>⟧.seen engine.new).kv.durable) (⟦<Engine<G, T, M, K> as Stepper<D>>⟧.seen engine.old).log (logged (⟦<Engine<G, T, M, K> as Stepper<D>>⟧.seen engine.old).kv (Raise ∷ Noop time ∷ []))) }
+    ensures running { OnOk result (engine.new.running ≡ engine.old.running) }
     ensures short { OnOk result (LogIsShort (⟦<Engine<G, T, M, K> as Stepper<D>>⟧.seen engine.new)) }
     ensures state_short { OnOk result (⟦<Engine<G, T, M, K> as Stepper<D>>⟧.seen engine.new).short }
 {

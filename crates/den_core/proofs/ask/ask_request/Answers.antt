@@ -2,6 +2,7 @@ use Rattle.std.proofs.Common.{ap, ◌∙◌, arith}
 use Rattle.den_model.specs.declared.request.Frame.TheVariants.{Good}
 use Rattle.den_model.specs.MapState.{part_of}
 use Rattle.den_model.specs.Step.{answer_to, command_of}
+use Rattle.den_core.specs.Parts.{running_seen}
 use Rattle.den_core.specs.Weights.{ask_rise, commit_rise, write_rise}
 use Rattle.den_core.proofs.Asking.{rises_within}
 use Rattle.den_core.proofs.Weighing.{asked_rises}
@@ -18,12 +19,12 @@ returns-in-Some-clause-rise g c = rises_within c.ask_write.result (write_rise c.
     ))
     c.ask_write.ensures.rise
 
-pub returns-in-Read-clause-asked : goal.returns-in-Read-clause-asked
-returns-in-Read-clause-asked g c = λ term moment.
-    ap (λ r. answer_to (record { durable = part_of (g.M.StateMachine.map c.args.state.now) term; running = c.args.running.now }) moment r) c.in-Read.is
+pub returns-in_ok-ask_read-in-Read-clause-asked : goal.returns-in_ok-ask_read-in-Read-clause-asked
+returns-in_ok-ask_read-in-Read-clause-asked g c = λ term moment.
+    ap (λ r. answer_to (record { durable = part_of (g.M.StateMachine.map c.args.state.now) term; running = running_seen c.args.running.now }) moment r) c.in-Read.is
     ∙ c.in_ok-ask_read-in-Read.ensures.said term moment
 
-pub returns-in-Scan-clause-asked : goal.returns-in-Scan-clause-asked
-returns-in-Scan-clause-asked g c = λ term moment.
-    ap (λ r. answer_to (record { durable = part_of (g.M.StateMachine.map c.args.state.now) term; running = c.args.running.now }) moment r) c.in-Scan.is
+pub returns-in_ok-ask_scan-in-Scan-clause-asked : goal.returns-in_ok-ask_scan-in-Scan-clause-asked
+returns-in_ok-ask_scan-in-Scan-clause-asked g c = λ term moment.
+    ap (λ r. answer_to (record { durable = part_of (g.M.StateMachine.map c.args.state.now) term; running = running_seen c.args.running.now }) moment r) c.in-Scan.is
     ∙ c.in_ok-ask_scan-in-Scan.ensures.said term moment

@@ -69,6 +69,7 @@ returns-in_err-removed-clause-makes g c =
                       let same_map = call.same same.ready in
                       inl (record {
                         same_kv = ap (λ m. kv_of h m engine.running) same_map;
+                        same_waits = refl;
                         same_log = refl;
                         same_weight = ap (λ n. (g.G.LogStore.shown engine.log).weight + (g.T.MetaStore.shown engine.meta).weight + n) same.same_weight;
                         same_disk = same.same_disk;
@@ -137,7 +138,7 @@ returns-clause-makes g c =
             state = writes.done.ready;
             caught_up = cleaned_caught_up l s _ time ready.caught_up cleaned;
             goes_with = subst (λ (x : Settings). GoesWith (g.K.Core.view engine.core).role x.leased (record engine.running { cleaned = Some time })) (sym call.settings)
-                (record { role_is = ready.goes_with.role_is; lease_is = ready.goes_with.lease_is; unwatched = ready.goes_with.unwatched });
+                (record { role_is = ready.goes_with.role_is; lease_is = ready.goes_with.lease_is });
           },
         );
         rests = λ told.

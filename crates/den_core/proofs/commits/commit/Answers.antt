@@ -49,7 +49,7 @@ returns-in_err-copy-clause-makes g c = record {
   refused = at_exit c.from_residual.result OutOfMemory _ c.from_residual.ensures.1 (record {
     cause = tt;
     full = tt;
-    left = inl (record { same_kv = refl; same_log = refl; same_weight = refl; same_disk = refl; stays_short = λ short. short; stays_ready = λ ready. ready; stays_at_rest = λ told rests. rests });
+    left = inl (record { same_kv = refl; same_waits = refl; same_log = refl; same_weight = refl; same_disk = refl; stays_short = λ short. short; stays_ready = λ ready. ready; stays_at_rest = λ told rests. rests });
   });
 }
 
@@ -111,6 +111,7 @@ returns-in_err-commit-clause-makes g c =
             let same = untouched_only (λ lost. lost.may_be) (refused.untouched memory) in
             inl (record {
               same_kv = refl;
+              same_waits = refl;
               same_log = same.same_value;
               same_weight = ap (λ n. n + (g.T.MetaStore.shown engine.meta).weight + (g.M.StateMachine.shown engine.state).weight) same.same_weight;
               same_disk = same.same_disk;

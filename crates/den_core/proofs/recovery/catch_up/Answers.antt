@@ -1,5 +1,5 @@
 use Rattle.std.proofs.Common.{sym, subst}
-use Rattle.den_core.specs.Parts.{IsCaughtUp}
+use Rattle.den_core.specs.Parts.{running_seen, IsCaughtUp}
 use Rattle.den_core.proofs.CatchUp.{left_in_order, left_caught_up, started_left, started_applied, survives_catching_up}
 use Rattle.den_core.proofs.Spared.{log_state, meta_state, snapshot_state, apart_own, spares_by}
 use Rattle.den_core.proofs.recovery.catch_up.Goals as goal
@@ -13,7 +13,7 @@ returns-in_err-apply_all-clause-survives g c = λ kept told held is.
     let disk = c.args.disk.now in
     let rests = c.requires.rests told in
     survives_catching_up g.G.LogStore.holds.of g.T.MetaStore.holds.of g.M.StateMachine.holds.of (g.D.Disk.images disk) (g.D.Disk.images c.apply_all.new.disk) (g.D.Disk.moment disk) (g.D.Disk.moment c.apply_all.new.disk) (g.D.Disk.content disk)
-    (g.G.LogStore.shown c.args.log).value (g.T.MetaStore.shown c.args.meta).value (g.M.StateMachine.map c.args.state) (g.M.StateMachine.map c.start.new.self) c.args.entries.now (record { durable = kept; running = c.args.running })
+    (g.G.LogStore.shown c.args.log).value (g.T.MetaStore.shown c.args.meta).value (g.M.StateMachine.map c.args.state) (g.M.StateMachine.map c.start.new.self) c.args.entries.now (record { durable = kept; running = running_seen c.args.running })
     c.start.ensures.map c.requires.left is (λ files. g.met.D.Disk.images_now disk files told)
     (λ files at. g.met.G.LogStore.lies.rests_hold held.0 c.args.log (g.D.Disk.content disk) files c.requires.log_ready rests.log at)
     (λ files at. g.met.T.MetaStore.lies.rests_hold held.1 c.args.meta (g.D.Disk.content disk) files c.requires.meta_ready rests.meta at)
@@ -24,7 +24,7 @@ returns-clause-survives g c = λ kept told held is.
     let disk = c.args.disk.now in
     let rests = c.requires.rests told in
     survives_catching_up g.G.LogStore.holds.of g.T.MetaStore.holds.of g.M.StateMachine.holds.of (g.D.Disk.images disk) (g.D.Disk.images c.apply_all.new.disk) (g.D.Disk.moment disk) (g.D.Disk.moment c.apply_all.new.disk) (g.D.Disk.content disk)
-    (g.G.LogStore.shown c.args.log).value (g.T.MetaStore.shown c.args.meta).value (g.M.StateMachine.map c.args.state) (g.M.StateMachine.map c.start.new.self) c.args.entries.now (record { durable = kept; running = c.args.running })
+    (g.G.LogStore.shown c.args.log).value (g.T.MetaStore.shown c.args.meta).value (g.M.StateMachine.map c.args.state) (g.M.StateMachine.map c.start.new.self) c.args.entries.now (record { durable = kept; running = running_seen c.args.running })
     c.start.ensures.map c.requires.left is (λ files. g.met.D.Disk.images_now disk files told)
     (λ files at. g.met.G.LogStore.lies.rests_hold held.0 c.args.log (g.D.Disk.content disk) files c.requires.log_ready rests.log at)
     (λ files at. g.met.T.MetaStore.lies.rests_hold held.1 c.args.meta (g.D.Disk.content disk) files c.requires.meta_ready rests.meta at)

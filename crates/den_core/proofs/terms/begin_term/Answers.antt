@@ -1,6 +1,6 @@
 use Rattle.std.proofs.Common.{◌+◌, IsTrue, inl, refl, ap, sym, subst, ◌∙◌, arith}
 use Rattle.den_model.specs.Image.{term_of}
-use Rattle.den_core.specs.Parts.{kv_of}
+use Rattle.den_core.specs.Parts.{kv_of, running_seen}
 use Rattle.den_core.proofs.GoesOn.{disk_twice}
 use Rattle.den_core.proofs.Spared.{spares_twice}
 use Rattle.den_core.specs.Full.{IsSlotTooShort}
@@ -101,7 +101,7 @@ returns-clause-makes g c =
           (raised_is _ (g.T.MetaStore.shown engine.meta).value _ _ _ _ _ c.in_ok-raise.ensures.raised c.raise.ensures.map c.raise.ensures.running)
           (c.commit_and_trim.ensures.makes.goes_on.told then).past (c.raise.ensures.makes.moves told held) (c.commit_and_trim.ensures.makes.moves then held);
       done = record {
-        state = term_state _ _ _ _ c.args.time between makes.done.durable c.commit_and_trim.ensures.running;
+        state = term_state _ _ _ _ c.args.time between makes.done.durable (ap running_seen c.commit_and_trim.ensures.running);
         logged = term_log _ _ _ (kv_of (g.T.MetaStore.shown engine.meta).value (g.M.StateMachine.map engine.state) engine.running) _ c.args.time between c.raise.ensures.log makes.done.logged;
         weight = omega (arith, raised.makes.done.weight, makes.done.weight);
         ready = c.in_ok-commit_and_trim.ensures.ready;

@@ -47,6 +47,7 @@ returns-in_err-raise-clause-makes g c =
             let same = untouched_only (λ lost. lost.may_be) (writes.refused.untouched memory) in
             inl (record {
               same_kv = ap (λ x. kv_of x (g.M.StateMachine.map engine.state) engine.running) same.same_value;
+              same_waits = refl;
               same_log = refl;
               same_weight = ap (λ n. (g.G.LogStore.shown engine.log).weight + n + (g.M.StateMachine.shown engine.state).weight) same.same_weight;
               same_disk = same.same_disk;

@@ -55,3 +55,4 @@ returns-clause-opened g c =
     opened g.D.Disk _ _ _ _ _ _ _ _ _ _ _ _ _ _ _ _ c.recover.ensures.disk c.in_ok-engine.ensures.opened c.in_ok-engine.ensures.running c.in_ok-engine.ensures.log
     c.in_ok-engine.ensures.most (omega (arith, c.in_ok-engine.ensures.weight)) c.now.ensures.told c.max-time.ensures c.open_at.ensures.makes.same_most
     c.in_ok-open_at.ensures.makes.done c.in_ok-open_at.ensures.short c.in_ok-open_at.ensures.state_short
+    c.in_ok-engine.ensures.waits c.in_ok-open_at.ensures.waits
