@@ -4,8 +4,7 @@ use Rattle.den_disk.specs.Goes.{Rose}
 use Rattle.den_codec.specs.declared.error.Error.{Error}
 use Rattle.den_codec.specs.declared.error.Error.TheVariants as error
 use Rattle.den_core.specs.Full.{IsFullBy}
-use Rattle.den_model.specs.declared.running.Running.{Running}
-use Rattle.den_model.specs.Kv.{Durable, Kv}
+use Rattle.den_model.specs.Kv.{Durable, Kv, Running}
 use Rattle.den_core.specs.Refusals.{IsServeRefusal}
 use Rattle.den_core.specs.Weights.{run_weight}
 use Rattle.den_server.specs.Causes.{IsRunRefusal, IsMuch, most_run}

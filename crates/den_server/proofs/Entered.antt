@@ -7,7 +7,7 @@ use Rattle.den_codec.specs.declared.config.RaftNodeConfig.{RaftNodeConfig}
 use Rattle.den_core.specs.Cores.{CoreView, running_under, solo_view}
 use Rattle.den_model.specs.Step.{is_leader}
 use Rattle.den_model.specs.declared.reply.NodeMeta.{NodeMeta}
-use Rattle.den_model.specs.declared.running.Running.{Running}
+use Rattle.den_model.specs.Kv.{Running}
 
 -- with leases where the configuration enables them
 pub running_is : (config : RaftNodeConfig) (view : CoreView) (leased : Bool) → view ≡ solo_view config.cluster.node_id 0 → leased ≡ config.raft.lease.enabled

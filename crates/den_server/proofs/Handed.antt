@@ -4,9 +4,8 @@ use Rattle.den_disk.specs.Files.{Files}
 use Rattle.den_disk.specs.Goes.{IsPrefix, added}
 use Rattle.den_codec.specs.declared.error.Error.{Error}
 use Rattle.den_codec.specs.declared.error.Error.TheVariants as error
-use Rattle.den_model.specs.declared.running.Running.{Running}
 use Rattle.den_model.specs.Crash.{IsServed, Survives, bytes_of}
-use Rattle.den_model.specs.Kv.{Durable, Kv}
+use Rattle.den_model.specs.Kv.{Durable, Kv, Running}
 use Rattle.den_model.specs.Log.{Log}
 use Rattle.den_model.specs.Plan.{plan_over}
 use Rattle.den_model.specs.Step.{Step}

@@ -10,12 +10,11 @@ use Rattle.den_disk.specs.Goes.{Rose, IsPrefix, DiskGoesOn, LinkGoesOn, ClockGoe
 use Rattle.den_codec.specs.declared.config.RaftNodeConfig.{RaftNodeConfig}
 use Rattle.den_codec.specs.declared.error.Error.{Error}
 use Rattle.den_codec.specs.Standard.{running_of}
-use Rattle.den_model.specs.declared.running.Running.{Running}
 use Rattle.den_model.specs.Crash.{IsServed, Stands, Survives, bytes_of}
 use Rattle.den_model.specs.Crash.{Tells}
 use Rattle.den_model.specs.Frames.{frames}
 use Rattle.den_model.specs.Image.{durable_in, in_regions, log_in, ok}
-use Rattle.den_model.specs.Kv.{Durable, Kv}
+use Rattle.den_model.specs.Kv.{Durable, Kv, Running}
 use Rattle.den_model.specs.Log.{Log}
 use Rattle.den_model.specs.Plan.{output, plan_over}
 use Rattle.den_model.specs.Sizes.{files_size}

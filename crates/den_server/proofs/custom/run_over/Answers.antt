@@ -3,10 +3,9 @@ use Rattle.std.proofs.lemmas.Result.{on_ok_weaker}
 use Rattle.den_disk.specs.declared.place.Family.TheVariants.{Snapshot as snapshot_family}
 use Rattle.den_disk.specs.Files.{Kind}
 use Rattle.den_disk.specs.Goes.{IsPrefix, Rose, added}
-use Rattle.den_model.specs.declared.running.Running.{Running}
 use Rattle.den_model.specs.Crash.{IsAnswered, Tells, bytes_of}
 use Rattle.den_model.specs.Frames.{frames}
-use Rattle.den_model.specs.Kv.{Kv}
+use Rattle.den_model.specs.Kv.{Kv, Running}
 use Rattle.den_model.specs.Log.{Log}
 use Rattle.den_model.specs.Plan.{output, plan_over}
 use Rattle.den_model.specs.Step.{Step, is_leader}

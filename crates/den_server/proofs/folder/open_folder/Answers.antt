@@ -2,8 +2,7 @@ use Rattle.std.proofs.Common.{Bool, IsTrue, le_trans, ◌≤◌, ◌+◌, ◌*�
 use Rattle.den_disk.specs.Files.{Kind}
 use Rattle.den_disk.specs.Goes.{Rose}
 use Rattle.den_model.specs.Image.{durable_in}
-use Rattle.den_model.specs.Kv.{Kv}
-use Rattle.den_model.specs.declared.running.Running.{Running}
+use Rattle.den_model.specs.Kv.{Kv, Running}
 use Rattle.den_codec.specs.Standard.{entered}
 use Rattle.den_core.specs.Cores.{running_under, solo_view}
 use Rattle.den_core.specs.Opening.{opening_refusal, IsOpeningFailure}
