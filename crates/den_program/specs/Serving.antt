@@ -6,8 +6,7 @@ use Rattle.den_disk.specs.declared.link.Link.{Ghosts as Links}
 use Rattle.den_disk.specs.Goes.{IsPrefix, Rose}
 use Rattle.den_codec.specs.declared.error.Error.{Error}
 use Rattle.den_codec.specs.declared.error.Error.TheVariants.{DataCorruption, FeatureNotEnabled, ProposeFailed}
-use Rattle.den_model.specs.declared.running.Setting.{Setting}
-use Rattle.den_model.specs.Kv.{running_at_entry}
+use Rattle.den_model.specs.Kv.{running_at_entry, Setting}
 use Rattle.den_model.specs.Sizes.{files_size}
 use Rattle.den_codec.specs.Standard.{standard_nodes}
 use Rattle.den_server.specs.Causes.{IsFull}
