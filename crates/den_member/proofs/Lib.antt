@@ -1,0 +1,4 @@
+pub mod Cache
+pub mod Members
+pub mod Nodes
+pub mod WorkedMembers

@@ -1,0 +1,13 @@
+pub mod Addresses
+pub mod Answers
+pub mod Cache
+pub mod Changes
+pub mod Connecting
+pub mod Health
+pub mod Leading
+pub mod Members
+pub mod Numbered
+pub mod Numbers
+pub mod Queries
+pub mod Raft
+pub mod Status
