@@ -1,0 +1,4 @@
+pub mod Adding
+pub mod Maps
+pub mod Snapshots
+pub mod Unwritten
