@@ -30,3 +30,5 @@ mod state;
 mod store;
 #[cfg(test)]
 mod turn;
+#[cfg(test)]
+mod watch;

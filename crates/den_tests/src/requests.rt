@@ -15,10 +15,11 @@ use std::test::Fail;
 const INVALID: &[u8] = b"\0\0\0\0\0\0\0\x05\x01\x0e\0\0\0";
 
 const EXHAUSTED: &[u8] = b"\0\0\0\0\0\0\0\x05\x01\x11\0\0\0";
-// A write that failed, and what is not built.
-const NOT_WRITTEN: &[u8] = b"\0\0\0\0\0\0\0\x06\x01\0\0\0\x01\0";
+// A write that failed, and the members of the default configuration: this node alone, which leads.
+pub(crate) const NOT_WRITTEN: &[u8] = b"\0\0\0\0\0\0\0\x06\x01\0\0\0\x01\0";
 
-const NOT_BUILT: &[u8] = b"\0\0\0\0\0\0\0\x02\x06\xff";
+const ITSELF: &[u8] =
+    b"\0\0\0\0\0\0\0\x38\x05\0\0\0\0\0\0\0\0\x01\0\0\0\x01\0\0\0\0\0\0\0\x01\0\0\0\x01\0\0\0\0\0\0\0\x0e127.0.0.1:9081\0\0\0\0\0\0\0\x02";
 // A body of no bytes, and a tail of three.
 const EMPTY_BODY: &[u8] = b"\0\0\0\0\0\0\0\0";
 
@@ -60,7 +61,7 @@ fn is_answered(alloc: Global, input: Pieces, sent: Pieces) -> Result<bool, Fail>
     answers(alloc, &mut disk, input, sent)
 }
 
-// Bad frames, swaps, a scan, a read of many keys, and what is not built.
+// Bad frames, swaps, a scan, a read of many keys, and the members.
 #[test]
 fn answers_requests(rt: HostRuntime) -> Result<(), Fail> {
     let cases: [(Pieces, Pieces); 4] = [
@@ -73,7 +74,7 @@ fn answers_requests(rt: HostRuntime) -> Result<(), Fail> {
             &[WRITTEN, WRITTEN, NOT_WRITTEN, SCANNED],
         ),
         (&[PUT, READ_THREE], &[WRITTEN, PAIR_TWICE]),
-        (&[MEMBERS], &[NOT_BUILT]),
+        (&[MEMBERS], &[ITSELF]),
     ];
     for (input, sent) in cases {
         assert!(rt; is_answered(rt.alloc(), input, sent)?, "of {input:?}");
