@@ -1,4 +1,4 @@
-"""Requests of all kinds at random, beside a plain map: each answer is the map's, also behind kills."""
+"""Requests of all kinds at random, beside a plain map: each answer and each event is the map's, also behind kills."""
 import os
 import signal
 import time
@@ -9,9 +9,12 @@ from stops import plain
 RUNS, REQUESTS, STOPS, UNDER_WAY = 6, 400, 20, 300
 KEYS = [b"", b"a", b"ab", b"abc", b"b", b"/x/1", b"/x/2", b"\xff", b"k" * 40]
 PREFIXES = [b"", b"a", b"/x/", b"\xff", b"none"]
+WATCHED = [b"/", b"/x/", b"/x/1/", b"/x", b"x/", b""]
+PUT, DELETE = 1, 2
 INVALID = bytes.fromhex("010e000000")
 NO_LEASE = bytes.fromhex("0603")
-NOT_BUILT = bytes.fromhex("06ff")
+NO_PREFIX = bytes.fromhex("0601")
+ITSELF = bytes.fromhex("050000000000000000" "0100000001" "0000000000000001" "00000001000000000000000e") + b"127.0.0.1:9081" + bytes.fromhex("0000000000000002")
 
 
 def text(draw, most=60):
@@ -23,49 +26,69 @@ def option(data):
 
 
 class Plain:
-    """The map that the server is to be: pairs, and the index of the last entry."""
+    """The map that the server is to be: pairs, the index of the last entry, and who watches. Each request is answered with
+    the bodies that are sent."""
 
     def __init__(self):
-        self.pairs, self.index = {}, 0
+        self.pairs, self.index, self.watchers = {}, 0, []
 
     def copy(self):
         other = Plain()
-        other.pairs, other.index = dict(self.pairs), self.index
+        other.pairs, other.index, other.watchers = dict(self.pairs), self.index, list(self.watchers)
         return other
 
     def opened(self):
-        """The opening takes an index."""
+        """The opening takes an index, and nobody watches."""
         self.index += 1
+        self.watchers = []
 
-    def written(self, done):
-        return bytes.fromhex("0100000001") + bytes([done])
+    def written(self, done, events=()):
+        return [bytes.fromhex("0100000001") + bytes([done]), *events]
+
+    def events(self, kind, key, value):
+        """What those who watch the key are told of its change, which is not made yet."""
+        told = []
+        for watcher, (watched, prefix, earlier) in enumerate(self.watchers, 1):
+            if key.startswith(watched) if prefix else key == watched:
+                before = self.pairs.get(key, b"") if earlier else b""
+                told.append(b"\4" + number(watcher) + bytes([kind]) + number(self.index) + blob(key) + blob(value) + blob(before))
+        return told
+
+    def watch(self, key, prefix, earlier):
+        if prefix and not (key.startswith(b"/") and key.endswith(b"/")):
+            return [NO_PREFIX]
+        self.watchers.append((key, prefix, earlier))
+        return [b"\3" + number(len(self.watchers))]
 
     def insert(self, key, value, ttl):
         if ttl:
-            return NO_LEASE
+            return [NO_LEASE]
         self.index += 1
+        events = self.events(PUT, key, value)
         self.pairs[key] = value
-        return self.written(True)
+        return self.written(True, events)
 
     def delete(self, key):
         self.index += 1
+        events = self.events(DELETE, key, b"")
         self.pairs.pop(key, None)
-        return self.written(True)
+        return self.written(True, events)
 
     def swap(self, key, expected, value):
         self.index += 1
         if self.pairs.get(key) != expected:
             return self.written(False)
+        events = self.events(PUT, key, value)
         self.pairs[key] = value
-        return self.written(True)
+        return self.written(True, events)
 
     def read(self, keys):
         found = [blob(key) + blob(self.pairs[key]) for key in keys if key in self.pairs]
-        return bytes.fromhex("0100000002") + number(len(found)) + b"".join(found)
+        return [bytes.fromhex("0100000002") + number(len(found)) + b"".join(found)]
 
     def scan(self, prefix):
         found = [blob(key) + blob(self.pairs[key]) for key in sorted(self.pairs) if key.startswith(prefix)]
-        return b"\2" + number(self.index) + number(len(found)) + b"".join(found)
+        return [b"\2" + number(self.index) + number(len(found)) + b"".join(found)]
 
 
 def drawn(draw):
@@ -90,13 +113,16 @@ def drawn(draw):
         prefix = draw.choice(PREFIXES)
         return frame(b"\3" + client + blob(prefix)), lambda m: m.scan(prefix)
     if kind == 9:
-        return frame(b"\1" + client + b"\0"), lambda m: INVALID
+        return frame(b"\1" + client + b"\0"), lambda m: [INVALID]
     if kind == 10:
         # No request begins so, and none has a byte behind its end.
         bad = draw.choice([b"", b"\0" + text(draw), b"\7" + text(draw), b"\3" + client + blob(key) + b"\0"])
-        return frame(bad), lambda m: INVALID
-    asked = draw.choice([b"\5" + client, b"\4" + client + b"\0\1" + blob(key)])
-    return frame(asked), lambda m: NOT_BUILT
+        return frame(bad), lambda m: [INVALID]
+    if draw.randrange(4) == 0:
+        return frame(b"\5" + client), lambda m: [ITSELF]
+    prefix, earlier = draw.random() < 0.5, draw.random() < 0.5
+    watched = draw.choice(WATCHED) if prefix else key
+    return frame(b"\4" + client + bytes([prefix, earlier]) + blob(watched)), lambda m: m.watch(watched, prefix, earlier)
 
 
 def answered(what, body, wanted):
@@ -106,20 +132,21 @@ def answered(what, body, wanted):
 
 def whole_runs(program, room, draw):
     """Runs to their end over one folder: each answer is the map's."""
-    folder, plain_map = os.path.join(room, "requests"), Plain()
+    folder, plain_map, told = os.path.join(room, "requests"), Plain(), 0
     for number_of_run in range(RUNS):
         asked = [drawn(draw) for _ in range(REQUESTS)]
         tail = draw.choice([b"", b"\0\0\0", number(9) + b"\1"])
         status, out, lines = run(program, folder, [data for data, _ in asked] + [tail])
         found = bodies(out)
         plain_map.opened()
-        if status or len(found) != REQUESTS + bool(tail):
-            fail(f"run {number_of_run}: status {status}, {lines!r}, {len(found)} answers")
-        for n, (data, answer) in enumerate(asked):
-            answered(f"request {n} of run {number_of_run}, {data!r},", found[n], answer(plain_map))
-        if tail:
-            answered("a torn tail", found[-1], INVALID)
-    say(f"{RUNS} runs of {REQUESTS} requests of all kinds, each answered as a plain map answers")
+        wanted = [(f"request {n} of run {number_of_run}, {data!r},", body) for n, (data, answer) in enumerate(asked) for body in answer(plain_map)]
+        wanted += [("a torn tail", INVALID)] if tail else []
+        if status or len(found) != len(wanted):
+            fail(f"run {number_of_run}: status {status}, {lines!r}, {len(found)} answers and events, and {len(wanted)} are to be")
+        for (what, body), sent in zip(wanted, found):
+            answered(what, sent, body)
+        told += sum(body.startswith(b"\4") for body in found)
+    say(f"{RUNS} runs of {REQUESTS} requests of all kinds, each answered as a plain map answers, with {told} events")
 
 
 def stopped_runs(program, room, draw):
@@ -135,10 +162,14 @@ def stopped_runs(program, room, draw):
         if status != -signal.SIGKILL:
             fail(f"stop {stop}: status {status}")
         plain_map.opened()
-        for n, body in enumerate(found):
-            answered(f"request {n} of stop {stop}", body, asked[n][1](plain_map))
-        total += len(found)
-        plain_map = behind(program, folder, plain_map, [answer for _, answer in asked[len(found):]])
+        done, left = 0, found
+        while left:
+            wanted = asked[done][1](plain_map)
+            for body, sent in zip(wanted, left):
+                answered(f"request {done} of stop {stop}", sent, body)
+            done, left = done + 1, left[len(wanted):]
+        total += done
+        plain_map = behind(program, folder, plain_map, [answer for _, answer in asked[done:]])
     say(f"{STOPS} kills in the midst of requests of all kinds, {total} were answered, and what stands is a map's behind a front of them")
 
 
@@ -156,6 +187,6 @@ def behind(program, folder, plain_map, rest):
             answer(plain_map)
         again = plain_map.copy()
         again.opened()
-        if again.scan(b"") == found[0]:
+        if again.scan(b"") == found:
             return again
-    fail(f"what stands is {found[0]!r}, and is to be {plain_map.scan(b'')!r} or the map before")
+    fail(f"what stands is {found[0]!r}, and is to be {plain_map.scan(b'')[0]!r} or the map before")
