@@ -76,8 +76,6 @@ def told(reply):
     if reply.startswith(b"\x02"):
         revision = int.from_bytes(reply[1:9], "big")
         return f"at {revision}: {pairs_in(reply[9:])}"
-    if reply == bytes.fromhex("06ff"):
-        return "refused: this version does not carry it out"
     return "refused with " + reply.hex()
 
 
