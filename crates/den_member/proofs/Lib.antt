@@ -1,3 +1,4 @@
+pub mod ById
 pub mod Cache
 pub mod Members
 pub mod Nodes

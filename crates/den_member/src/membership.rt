@@ -1,5 +1,7 @@
 //! A node's view of its cluster.
-ghost use Rattle.std.specs.Prelude.{◌≡◌, ℤ, Bool, None, IfOk, IfErr, option_copied, if◌then◌else◌};
+ghost use Rattle.std.specs.Prelude.{◌≡◌, ℤ, Bool, None, IfOk, IfErr, option_copied, if◌then◌else◌, true};
+ghost use Rattle.den_codec.specs.Nodes.{ids_differ};
+ghost use Rattle.den_model.specs.Step.{by_id};
 ghost use Rattle.den_member.specs.Answers.{Answers, Comes, MakesChange};
 ghost use Rattle.den_member.specs.Cache.{without_node};
 ghost use Rattle.den_member.specs.Changes.{activated, added, change_applied, removed, stated};
@@ -68,8 +70,9 @@ impl<X: Drop> RaftMembership<X> {
     ghost use Rattle.den_member.specs.Raft.{Channels};
     ghost use Rattle.den_member.specs.contracts.membership.RaftMembership.{the_row};
 
-    /// The view of a node when it begins: these nodes, of equal ids the last, at version 0. It is refused for want of memory
-    /// alone, as are all calls below whose answer is a list, a node or an address.
+    /// The view of a node when it begins: these nodes, of equal ids the last, at version 0. Where no id stands twice, `members`
+    /// answers just these in the order of their ids. It is refused for want of memory alone, as are all calls below whose
+    /// answer is a list, a node or an address.
     pub fn new(
         alloc: Global,
         node_id: u32,
@@ -77,6 +80,7 @@ impl<X: Drop> RaftMembership<X> {
         config: &RaftNodeConfig,
     ) -> Result<RaftMembership<X>, MemberError>
         ensures fresh { IfOk result (IsFresh node_id initial_nodes config.now.raft.zombie_threshold) }
+        ensures by_id { ids_differ initial_nodes ≡ true → IfOk result (λ r. all_nodes r.membership ≡ by_id initial_nodes) }
         ensures refused { IfErr result (λ e. e ≡ OutOfMemory) }
     {
         let initial_size = initial_nodes.as_slice().len();
