@@ -1,5 +1,6 @@
 pub mod Calls
 pub mod Crash
+pub mod Delays
 pub mod Families
 pub mod Files
 pub mod Goes

@@ -1,4 +1,4 @@
-//! The outside of the server, as traits: a disk of twelve files, a link, a clock, a source and a sink, each with a body
+//! The outside of the server, as traits: a disk of twelve files, a link, a clock, a source, a sink and a pause, each with a body
 //! in memory that tells all its bytes. The machine's own bodies stand in `den_host`.
 //!
 //! A disk has a content (what is read, and which ranges are pending), a moment that rises with every call that changes
@@ -27,10 +27,12 @@ mod disk;
 mod faults;
 mod link;
 mod list_clock;
+mod list_pause;
 mod mem_link;
 mod mem_sink;
 mod mem_source;
 mod memory;
+mod pause;
 mod place;
 mod sink;
 mod source;
@@ -40,10 +42,12 @@ pub use clock::Clock;
 pub use disk::{Disk, DiskFault};
 pub use link::{Link, LinkFault, Piece};
 pub use list_clock::ListClock;
+pub use list_pause::ListPause;
 pub use mem_link::MemLink;
 pub use mem_sink::MemSink;
 pub use mem_source::MemSource;
 pub use memory::{MemDisk, Step};
+pub use pause::Pause;
 pub use place::{Family, Part, Place};
 pub use sink::{Sink, SinkFault};
 pub use source::{Source, SourceFault};

@@ -1,4 +1,4 @@
-//! The machine's own outside: files of a folder, standard input and output, the wall clock, a file that is read once, and
+//! The machine's own outside: files of a folder, standard input and output, the wall clock, a pause, a file that is read once, and
 //! standard error. None of them tells its bytes, so no contract speaks of what is in them; each counts the calls that
 //! failed.
 #![tactic(auto)]
@@ -8,6 +8,7 @@ mod file_source;
 mod folder_disk;
 mod folder_lock;
 mod host_clock;
+mod host_pause;
 mod place_file;
 mod standard_descriptors;
 mod std_link;
@@ -19,6 +20,7 @@ pub use file_source::FileSource;
 pub use folder_disk::FolderDisk;
 pub use folder_lock::FolderLock;
 pub use host_clock::HostClock;
+pub use host_pause::HostPause;
 pub use standard_descriptors::StandardDescriptors;
 pub use std_link::StdLink;
 pub use std_sink::StdSink;
