@@ -45,20 +45,6 @@ too_long bytes long =
 pub held_too_long : (whole held rest : List ℕ) → whole ≡ held ++ rest → 1048576 < length held → configuration_in whole ≡ Err Text
 held_too_long whole held rest is long = too_long whole (omega (arith, ap length is, length-append held rest))
 
--- a refusal for what the bytes hold
-pub source_refusal : {A : Type 0} (rose told : Type 0) (there here : Result A ConfigPlace) (e : Error) → (told → there ≡ here) → IsRefusal here e → IsSourceRefusal rose told there e
-source_refusal rose told there here OutOfMemory same h = tt
-source_refusal rose told there here (Config key) same h = λ t. same t ∙ h
-source_refusal rose told there here StorageIoError same h = h
-source_refusal rose told there here (DiskFull needed limit) same h = h
-source_refusal rose told there here LinkFault same h = h
-source_refusal rose told there here (DataCorruption place offset) same h = h
-source_refusal rose told there here FeatureNotEnabled same h = h
-source_refusal rose told there here ProposeFailed same h = h
-source_refusal rose told there here (UnorderedChunk index) same h = h
-source_refusal rose told there here ConfigFault same h = absurd h
-source_refusal rose told there here StateMachineError same h = h
-
 -- a refusal of what one more step would have been made on
 pub step_refusal : {A B : Type 0} (rose told : Type 0) (r : Result A ConfigPlace) (step : A → Result B ConfigPlace) (e : Error) → IsSourceRefusal rose told r e → IsSourceRefusal rose told (and_then r step) e
 step_refusal rose told r step OutOfMemory h = h

@@ -21,23 +21,6 @@ has_list slot list files head stands =
     let same : slot_of slot.family files ≡ slot = λ i. record { family = slot.family; part = head i } in
     record { slot_same = same; list_is = ap (λ (p : Place). regions (files p)) same ∙ stands }
 
--- the list of the slot itself
-pub slot_list : (slot : Place) (list : List (List ℕ)) (files : Files) → HasList slot list files → regions (files slot) ≡ Ok (placed 0 list)
-slot_list slot list files h = ap (λ (p : Place). regions (files p)) (sym h.slot_same) ∙ h.list_is
-
--- no slot that a head names is the head
-pub slot_apart : (slot : Place) (c : Content) → IsCurrent slot c → head_of slot.family ≡ slot → ⊥
-slot_apart slot c current e = named_slot (c.reading (head_of slot.family)) (current.head ∙ sym (ap (λ (p : Place). p.part) e))
-
--- the head stays while its slot changes
-pub current_kept : (slot : Place) (old new : Content) → Spares slot old new → IsCurrent slot old → IsCurrent slot new
-current_kept slot old new s current =
-    let apart = slot_apart slot old current in
-    record {
-      head = ap named (s.reading (head_of slot.family) apart) ∙ current.head;
-      settled = λ k h. current.settled k (s.pending (head_of slot.family) apart k h);
-    }
-
 pub spares_others : (slot : Place) (old new : Content) → Spares slot old new → SparesOthers slot.family old new
 spares_others slot old new s = record {
   reading = λ q ne. s.reading q (λ e. ne (ap (λ (p : Place). p.family) e));
@@ -83,13 +66,6 @@ rest_spared gate old new s rest =
       settled = λ k h. rest.settled k (s.pending gate.slot refl k h);
     }
 
--- and its draft
-pub draft_spared : (gate : GateFile) (list : List (List ℕ)) (old new : Content) → SparesOwn gate.slot.family old new → IsDraft gate list old → IsDraft gate list new
-draft_spared gate list old new s d = record {
-  begun = d.begun;
-  holds = subst (λ (l : List ℕ). Holds list (draft_end gate) l) (sym (s.reading (other_slot gate.slot) refl)) d.holds;
-}
-
 pub current_spared : (slot : Place) (old new : Content) → SparesOwn slot.family old new → IsCurrent slot old → IsCurrent slot new
 current_spared slot old new s current = record {
   head = ap named (s.reading (head_of slot.family) refl) ∙ current.head;
@@ -131,23 +107,10 @@ pub has_meaning : {A : Type 0} (family : Family) (meaning : List Region → Resu
     → in_regions family meaning files ≡ meaning (placed 0 list)
 has_meaning family meaning slot list files own h = ap (λ (f : Family). in_regions f meaning files) (sym own) ∙ ap (meaning_of meaning) h.list_is
 
--- a meaning that the list gives, over a call that keeps it
-pub keeps_meaning : {X : Type 0} (holds : Files → Option X) (slot : Place) (list : List (List ℕ)) (images : ℕ → Files → Type 0) (from to : ℕ) (old new : X)
-    → ((files : Files) → HasList slot list files → holds files ≡ Some old) → KeepsFamily slot list images from to → OldOrNew holds images from to old new
-keeps_meaning holds slot list images from to old new gives k = record { each = λ t files low high i. inl (gives files (k.each t files low high i)) }
-
 -- and over one that may add to it
 pub adds_meaning : {X : Type 0} (holds : Files → Option X) (slot : Place) (list : List (List ℕ)) (payload : List ℕ) (images : ℕ → Files → Type 0) (from to : ℕ) (old new : X)
     → ((files : Files) → HasList slot list files → holds files ≡ Some old) → ((files : Files) → HasList slot (list ++ payload ∷ []) files → holds files ≡ Some new)
     → KeepsOrAddsFamily slot list payload images from to → OldOrNew holds images from to old new
 adds_meaning holds slot list payload images from to old new was is k = record {
-  each = λ t files low high i. ⊎_elim (λ h. inl (was files h)) (λ h. inr (is files h)) (k.each t files low high i);
-}
-
--- and over one that puts another list in its place
-pub flips_meaning : {X : Type 0} (holds : Files → Option X) (slot other : Place) (list now : List (List ℕ)) (images : ℕ → Files → Type 0) (from to : ℕ) (old new : X)
-    → ((files : Files) → HasList slot list files → holds files ≡ Some old) → ((files : Files) → HasList other now files → holds files ≡ Some new)
-    → FlipsFamily slot other list now images from to → OldOrNew holds images from to old new
-flips_meaning holds slot other list now images from to old new was is k = record {
   each = λ t files low high i. ⊎_elim (λ h. inl (was files h)) (λ h. inr (is files h)) (k.each t files low high i);
 }

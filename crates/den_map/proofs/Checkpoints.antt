@@ -47,10 +47,6 @@ page_map s page fits = word_map s (Pairs page) fits
 abbrev pub pairs_of : List (List StoredPair) → List StoredPair
 pairs_of pages = flat_map (λ page. page) pages
 
--- the payloads of a checkpoint
-abbrev pub checkpoint_words : ℕ → ℕ → List (List StoredPair) → List (List ℕ)
-checkpoint_words index term pages = state_region_word (Begin index term) ∷ map (λ page. state_region_word (Pairs page)) pages
-
 abbrev pub EachFits : List (List StoredPair) → Type 0
 EachFits pages = AllByRecursion (λ page. FitsStateRegion (Pairs page)) pages
 
@@ -75,19 +71,6 @@ pages_from s (page ∷ pages) (r ∷ rs) fits is =
     map_on s (with_pairs s page) r rs (ap (map_after_payload s) first ∙ page_map s page fits.0)
     ∙ pages_from (with_pairs s page) pages rs fits.1 rest
     ∙ ap (λ (m : MapState). Ok m) (with_both s page (pairs_of pages))
-
--- regions of a map's mark and of pages of its pairs give the map, whatever stands before them
-pub checkpoint_again : (s m : MapState) (pages : List (List StoredPair)) (rs : List Region) → IsSound m → pairs_of pages ≡ stored_pairs m → FitsStateRegion (Begin m.mark.index m.mark.term) → EachFits pages
-    → map (λ r. r.payload) rs ≡ checkpoint_words m.mark.index m.mark.term pages → map_from s rs ≡ Ok m
-checkpoint_again s m pages [] sound all fits each is = absurd (cc is)
-checkpoint_again s m pages (r ∷ rs) sound all fits each is =
-    let start : MapState = record { pairs = []; expiries = []; mark = m.mark } in
-    let first : r.payload ≡ state_region_word (Begin m.mark.index m.mark.term) = cc in
-    let rest : map (λ (q : Region). q.payload) rs ≡ map (λ page. state_region_word (Pairs page)) pages = cc in
-    map_on s start r rs (ap (map_after_payload s) first ∙ begin_map s m.mark.index m.mark.term fits)
-    ∙ pages_from start pages rs each rest
-    ∙ ap (λ (ps : List StoredPair). Ok (with_pairs start ps)) all
-    ∙ ap (λ (n : MapState). Ok n) (rebuilt m sound)
 
 -- ---- what they take
 

@@ -39,14 +39,6 @@ pub after_lawful : (s : MapState) (r : JournalRecord) (place : LogId) → place_
     → map_after_record s r ≡ Some (record (record_done s r) { mark = place })
 after_lawful s r place e above = as_marked s r place e ∙ rw (lt-ltb s.mark.index place.index above) refl
 
--- what a lawful record of an entry gives
-pub lawful_gives : (s next : MapState) (r : JournalRecord) (place : LogId) → place_of r ≡ Some place → map_after_record s r ≡ Some next → record (record_done s r) { mark = place } ≡ next
-lawful_gives s next r place e lawful =
-    elim (nat_lt s.mark.index place.index) as (λ b. (if b then Some (record (record_done s r) { mark = place }) else None) ≡ Some next → record (record_done s r) { mark = place } ≡ next) [
-      | true ↦ λ h. cc
-      | false ↦ λ h. cc
-    ] (sym (as_marked s r place e) ∙ lawful)
-
 -- ---- records in order
 
 pub front : {X : Type 0} (xs : List X) (i : ℕ) (x : X) → i < length xs → x ≡ get_or xs i x → drop i xs ≡ x ∷ drop (i + 1) xs
@@ -69,15 +61,6 @@ pub records_go_on : (s next : MapState) (xs : List JournalRecord) (i : ℕ) (x :
 unfolding on_records
 records_go_on s next xs i x total lt is e so_far = sym (next_record s xs i x (Some next) lt is e) ∙ so_far
 
-pub records_follow : (s after next : MapState) (xs : List JournalRecord) (i : ℕ) (x : JournalRecord) → i < length xs → x ≡ get_or xs i x → ((mid : MapState) → map_after_record s x ≡ Some mid → after ≡ mid)
-    → map_after_records s (drop i xs) ≡ Some next → map_after_records after (drop (i + 1) xs) ≡ Some next
-unfolding on_records
-records_follow s after next xs i x lt is follows so_far =
-    elim (map_after_record s x) as (λ o. map_after_record s x ≡ o → on_records o (drop (i + 1) xs) ≡ Some next → map_after_records after (drop (i + 1) xs) ≡ Some next) [
-      | None ↦ λ e h. cc
-      | Some mid ↦ λ e h. ap (λ m. map_after_records m (drop (i + 1) xs)) (follows mid e) ∙ h
-    ] refl (sym (next_record s xs i x (map_after_record s x) lt is refl) ∙ so_far)
-
 pub records_end : (s new : MapState) (xs : List JournalRecord) (i : ℕ) (x : JournalRecord) (total : Option MapState) (r : Result Unit FoldError) (e : FoldError) → r ≡ Err e → i < length xs → x ≡ get_or xs i x
     → Folds (Err e) (map_after_record s x) new → map_after_records s (drop i xs) ≡ total → Folds r total new
 unfolding on_records
@@ -89,7 +72,3 @@ unfolding map_after_records
 records_done s xs i total le so_far = sym so_far ∙ ap (map_after_records s) (drop_of_length-le xs le)
 
 -- ---- pairs in order
-
-pub pairs_go_on : (s : MapState) (xs : List StoredPair) (i : ℕ) (x : StoredPair) → i < length xs → x ≡ get_or xs i x
-    → with_pairs s (drop i xs) ≡ with_pairs (with_stored s x.key x.value x.term x.expiry) (drop (i + 1) xs)
-pairs_go_on s xs i x lt is = rw (front xs i x lt is) refl

@@ -134,16 +134,3 @@ pub payload_sized : (s n : MapState) (r : StateRegion) (payload : List ℕ) (don
     → OnOk done (pairs_size n.pairs ≤ pairs_size s.pairs + length payload)
 payload_sized s n r payload (Ok u) is word = let size = region_sized s n r is in let same = ap length word.0 in omega arith
 payload_sized s n r payload (Err e) is word = tt
-
--- the same of any payload that is lawful
-pub map_sized : (s n : MapState) (payload : List ℕ) → IsBytes payload → map_after_payload s payload ≡ Some n → pairs_size n.pairs ≤ pairs_size s.pairs + length payload
-unfolding map_after_payload state_region_in
-map_sized s n payload bytes is =
-    elim (state_region_in payload) as (λ o. state_region_in payload ≡ o → elim o [ None ↦ None | Some r ↦ map_after s r ] ≡ Some n → pairs_size n.pairs ≤ pairs_size s.pairs + length payload) [
-      | None ↦ λ read h. cc
-      | Some r ↦ λ read h.
-          let word = (word_iff spells_state_region payload r bytes).0 read in
-          let size = region_sized s n r h in
-          let same = ap length word.0 in
-          omega arith
-    ] refl is

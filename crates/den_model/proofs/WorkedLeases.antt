@@ -1,6 +1,6 @@
 -- Worked rows of leases, by computing: what a run over this input and these readings sends, and what its end holds.
-use Rattle.std.specs.Prelude.{◌≡◌, ℕ, pos, true, false, Bool, List, [], ◌∷◌, Some, None, codes, refl}
-use Rattle.den_model.specs.Kv.{Durable, nothing, Kv, at_entry, Setting}
+use Rattle.std.specs.Prelude.{◌≡◌, ℕ, pos, true, false, List, [], ◌∷◌, Some, None, refl}
+use Rattle.den_model.specs.Kv.{Durable, nothing, Kv, at_entry}
 use Rattle.den_model.specs.Spelling.{u32_word, u64_word}
 use Rattle.den_model.specs.Reading.{scan_at, size_at, blob_at, items_at, list_at, option_at, option_behind, truth_at, insert_asked_at, delete_asked_at, swap_asked_at, watch_at, operation_at, write_at, read_at, request_at, request_in}
 use Rattle.den_model.specs.Frames.{frame_of, frames_behind}

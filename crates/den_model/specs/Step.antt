@@ -23,7 +23,6 @@ use Rattle.den_model.specs.declared.reply.ClientResponsePayload.{ClientResponseP
 use Rattle.den_model.specs.declared.reply.ClientResponsePayload.TheVariants as payload
 use Rattle.den_model.specs.declared.reply.KvEntry.{KvEntry}
 use Rattle.den_model.specs.declared.reply.WatchEvent.{WatchEvent}
-use Rattle.den_model.specs.declared.reply.WatchEventType.{WatchEventType}
 use Rattle.den_model.specs.declared.reply.WatchEventType.TheVariants as event
 use Rattle.den_model.specs.Entries.{LogEntry}
 use Rattle.den_model.specs.Table.{Table}

@@ -43,8 +43,5 @@ empty_at mark = record { pairs = []; expiries = []; mark = mark }
 pub map_light : (mark : LogId) (t : Taken) → pairs_size (map_of mark t).pairs ≤ stored_size t.pairs
 map_light mark t = let size : pairs_size (map_of mark t).pairs ≤ 0 + stored_size t.pairs = size_with (empty_at mark) t.pairs in omega arith
 
-pub map_sound : (mark : LogId) (t : Taken) → IsSound (map_of mark t)
-map_sound mark t = sound_with (empty_at mark) t.pairs (sound_empty mark)
-
 pub map_marked : (mark : LogId) (t : Taken) → (map_of mark t).mark ≡ mark
 map_marked mark t = mark_kept (empty_at mark) t.pairs

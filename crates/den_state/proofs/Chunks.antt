@@ -21,13 +21,6 @@ module _ (leased : Bool) (mark : ℕ) (chunk : List LogEntry) where
   pub admitted : out_of_order mark chunk ≡ None → lacks_lease leased chunk ≡ false → refusal_of_chunk leased mark chunk ≡ None
   admitted is lacks = ap by_order is ∙ ap (λ b. if b then Some FeatureNotEnabled else None) lacks
 
--- what is known of a refusal, where there is one
-pub at_refusal : (P : Error → Type 0) (o : Option Error) (e : Error) → o ≡ Some e → P e → IfSome o P
-at_refusal P o e is p = subst (λ (x : Option Error). IfSome x P) (sym is) p
-
-pub at_none : (P : Error → Type 0) (o : Option Error) → o ≡ None → IfSome o P
-at_none P o is = subst (λ (x : Option Error). IfSome x P) (sym is) tt
-
 -- what holds at each answer
 pub both_ways : {A B P : Type 0} (r : Result A B) → OnOk r P → IfErr r (λ e. P) → P
 both_ways (Ok x) p q = p

@@ -47,11 +47,6 @@ nothing_removed false moment s none = refl
 nothing_removed true moment s none = no_keys s.expiries moment none
 
 -- where something is
-pub leased_for : (leased some : Bool) → (leased && some) ≡ true → true ≡ leased
-leased_for true some e = refl
-leased_for false some e = absurd cc
-
--- where something is
 pub due_cleaned : (leased due : Bool) (moment at : ℕ) (s : MapState) → (leased && due) ≡ true → moment ≡ at → cleaned_map moment s ≡ cleaned_where leased at s
 due_cleaned true due moment at s is same = ap (λ n. cleaned_map n s) same
 due_cleaned false due moment at s is same = absurd cc

@@ -17,9 +17,6 @@ use Rattle.den_map.proofs.Checkpoints.{begin_long}
 
 -- ---- a record
 
-length_blob : (b : List ℕ) → length (blob_word b) ≡ 8 + length b
-length_blob b = omega (arith, length-append (u64_word (length b)) b, length_u64_word (length b))
-
 length_fields : (index term opcode : ℕ) (key value : List ℕ) (expiry : ℕ) → length (record_fields index term opcode key value expiry) ≡ 41 + length key + length value
 length_fields index term opcode key value expiry = simp (length-append, length_u64_word) (omega arith)
 

@@ -117,11 +117,6 @@ append_rises l es lawful fits = rise_after (floor l) 1 es fits.2 lawful
 pub replace_rises : (l : Log) (r : EntriesFrom) → is_lawful l (Replace r) ≡ true → FitsLogRegion (Replace r) → rise_above (floor l) r.entries ≡ true
 replace_rises l r lawful fits = rise_after (floor l) r.from r.entries fits.2 (begins_above l r.from r.entries fits.1.1 fits.2 lawful)
 
--- an append of entries is a replacement from the first one's index on
-pub append_is : (l : Log) (es : List LogEntry) (first : LogEntry) (from : ℕ) → 0 < length es → first ≡ get_or es 0 first → from ≡ first.index → replaced l from es ≡ changed l (Append es)
-append_is l [] first from some is at = absurd (omega arith)
-append_is l (e ∷ es) first from some is at = ap (λ (i : ℕ). replaced l i (e ∷ es)) (at ∙ ap (λ (x : LogEntry). x.index) is)
-
 pub append_none : (l : Log) (es : List LogEntry) → length es ≤ 0 → l ≡ changed l (Append es)
 append_none l [] none = refl
 append_none l (e ∷ es) none = absurd (omega arith)
