@@ -1,6 +1,5 @@
 -- Channels in their places.
-use Rattle.std.proofs.Common.{◌≡◌, ◌<◌, ◌∙◌, ℕ, ◌+◌, [], ◌∷◌, ◌++◌, length, position, refl, ap, sym, subst, slice_set, List, Option, Some, None, arith, length-set, length-append, rules}
-use Rattle.std.specs.Prelude.{Result, Ok, Err, IfOk, IfErr, IfSome, slice_get}
+use Rattle.std.proofs.Common.{◌≡◌, ◌<◌, ℕ, [], ◌∷◌, ◌++◌, length, position, ap, sym, slice_set, List, Option, Some, None, length-set}
 use Rattle.den_member.specs.Cache.{is_for, place_for, placed}
 use Rattle.den_member.specs.declared.connection_cache.Cached.{Cached}
 

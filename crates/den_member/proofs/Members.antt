@@ -1,13 +1,13 @@
 -- Nodes that are changed.
 use Rattle.std.proofs.Common.{◌≡◌, ℕ, ℤ, pos, Bool, true, false, not, cond, filter, map, List, [], ◌∷◌, Option, Some, None, is_some, refl, sym, ap, ◌∙◌, ◌++◌, append_assoc, subst}
-use Rattle.std.specs.Prelude.{if◌then◌else◌, ◌==◌, ◌||◌, Result, Ok, Err, option_map}
+use Rattle.std.specs.Prelude.{if◌then◌else◌, ◌||◌, Result, Ok, Err, option_map}
 use Rattle.std.specs.List.{find, take_while}
 use Rattle.std.specs.BTreeMap.{BTreeMap, IsOrdered, get, is_at}
 use Rattle.std.specs.Map.{set_value}
 use Rattle.std.specs.Ordering.{int_eq, nat_cmp}
 use Rattle.den_model.specs.declared.reply.NodeMeta.{NodeMeta}
 use Rattle.den_member.specs.Answers.{ChangeOutcome, Comes, MakesChange, done, refused}
-use Rattle.den_member.specs.Changes.{changed_one, promoted, promoted_all, promoted_one}
+use Rattle.den_member.specs.Changes.{promoted, promoted_all, promoted_one}
 use Rattle.den_member.specs.Leading.{ready, readied, readied_one}
 use Rattle.den_member.specs.Members.{Members, changed, is_id, is_listed}
 use Rattle.den_member.specs.Numbered.{Numbered, at, is_held}

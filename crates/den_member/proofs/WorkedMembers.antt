@@ -1,7 +1,9 @@
--- Worked rows of majorities, failures and members, by computing.
-use Rattle.std.specs.Prelude.{◌≡◌, ℕ, ◌+◌, ◌/◌, pos, true, false, nat_lt, List, [], ◌∷◌, map, Option, Some, None, Result, Ok, Err, codes, refl}
+-- Worked rows of majorities, failures, pauses and members, by computing.
+use Rattle.std.specs.Prelude.{◌≡◌, ℕ, ◌+◌, ◌-◌, ◌/◌, pos, true, false, nat_lt, List, [], ◌∷◌, map, Option, Some, None, Ok, Err, codes, refl}
+use Rattle.den_codec.specs.declared.config.BackoffPolicy.{BackoffPolicy}
 use Rattle.den_model.specs.declared.reply.NodeMeta.{NodeMeta}
-use Rattle.den_member.specs.Answers.{ChangeOutcome, told_as}
+use Rattle.den_member.specs.Answers.{told_as}
+use Rattle.den_member.specs.Backoff.{pauses_of}
 use Rattle.den_member.specs.Changes.{added, change_applied, promoted_all, removed}
 use Rattle.den_member.specs.Health.{Health, failed, signal_of, succeeded}
 use Rattle.den_member.specs.Leading.{leader_answer, members_after}
@@ -9,6 +11,7 @@ use Rattle.den_member.specs.Members.{Members, of_nodes}
 use Rattle.den_member.specs.Numbered.{at, is_held}
 use Rattle.den_member.specs.Numbers.{nearest}
 use Rattle.den_member.specs.Queries.{all_nodes, rejoins, voters_of}
+use Rattle.den_member.specs.Snapshots.{snapshot_of}
 use Rattle.den_member.specs.declared.change.ClusterConfChangeRequest.{ClusterConfChangeRequest}
 use Rattle.den_member.specs.declared.change.ConfOutcome.TheVariants.{Success}
 use Rattle.den_member.specs.declared.change.NodeChange.TheVariants.{AddNode, BatchRemove, Promote}
@@ -60,6 +63,21 @@ none_signals = refl
 pub five_failures_count : at (after (watched 0) (1 ∷ 1 ∷ 1 ∷ 1 ∷ 1 ∷ [])).failures 1 ≡ Some 5
 five_failures_count = refl
 
+-- ---- pauses between tries
+
+-- so many tries, a base and a greatest pause
+abbrev policy : (tries base greatest : ℕ) → BackoffPolicy
+policy tries base greatest = record { max_retries = tries; base_delay_ms = base; max_delay_ms = greatest }
+
+pub pauses_double : pauses_of (policy 3 1000 3000) (3 - 1) ≡ 1000 ∷ 2000 ∷ []
+pauses_double = refl
+
+pub base_is_not_capped : pauses_of (policy 3 5000 3000) (3 - 1) ≡ 5000 ∷ 3000 ∷ []
+base_is_not_capped = refl
+
+pub pauses_stay_at_the_greatest : pauses_of (policy 6 1000 3000) (6 - 1) ≡ 1000 ∷ 2000 ∷ 3000 ∷ 3000 ∷ 3000 ∷ []
+pauses_stay_at_the_greatest = refl
+
 -- ---- members, one step after the other
 
 -- node 1, which follows and is active
@@ -91,6 +109,13 @@ batch_ends_at_9 = refl
 
 pub second_votes : voters_of 1 with_voter ≡ record { id = 2; address = codes "h:1"; role = pos 0; status = pos 2 } ∷ []
 second_votes = refl
+
+-- what receivers are told before and behind that
+pub second_learns : snapshot_of with_second 5 ≡ record { members = record { keys = 1 ∷ [] }; learners = record { keys = 2 ∷ [] }; committed_index = 5 }
+second_learns = refl
+
+pub second_is_a_member : snapshot_of with_voter 6 ≡ record { members = record { keys = 1 ∷ 2 ∷ [] }; learners = record { keys = [] }; committed_index = 6 }
+second_is_a_member = refl
 
 -- 2 is removed
 abbrev without_second : Members

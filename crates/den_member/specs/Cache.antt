@@ -1,5 +1,5 @@
 -- Channels that are kept.
-use Rattle.std.specs.Prelude.{◌≡◌, ◌⊎◌, ℕ, ◌<◌, ◌==◌, ◌&&◌, ◌++◌, Bool, true, false, List, [], ◌∷◌, length, filter, not, nat_eq, position, slice_set, Option, Some, None, option_map, Result, Ok, Err, IfOk, IfErr, IfSome, IsOkAnd}
+use Rattle.std.specs.Prelude.{◌≡◌, ◌⊎◌, ℕ, ◌<◌, ◌==◌, ◌&&◌, ◌++◌, Bool, true, false, List, [], ◌∷◌, length, filter, not, nat_eq, position, slice_set, Option, Some, None, option_map, Result, Ok, IfOk, IfErr, IfSome, IsOkAnd}
 use Rattle.std.specs.Borrow.{Bor}
 use Rattle.std.specs.Cmp.Lexicographic.{pointwise}
 use Rattle.std.specs.List.{find, slice_get}

@@ -1,5 +1,5 @@
 -- Changes of the members, as the log has them.
-use Rattle.std.specs.Prelude.{ℕ, ℤ, pos, Bool, not, List, filter, map, Option, Some, None, option_map, unwrap_or, if◌then◌else◌}
+use Rattle.std.specs.Prelude.{ℕ, ℤ, pos, Bool, not, List, filter, Option, Some, None, option_map, unwrap_or, if◌then◌else◌}
 use Rattle.std.specs.List.{find, take_while}
 use Rattle.std.specs.Ordering.{int_eq}
 use Rattle.den_model.specs.declared.reply.NodeMeta.{NodeMeta}

@@ -1,5 +1,5 @@
 -- Changes of the members that a leader asks for.
-use Rattle.std.specs.Prelude.{ℕ, ℤ, pos, ◌==◌, Bool, not, nat_lt, List, Option, Some, None, Result, Ok, Err, if◌then◌else◌}
+use Rattle.std.specs.Prelude.{ℕ, ℤ, pos, ◌==◌, not, nat_lt, List, Option, Some, None, Result, Ok, Err, if◌then◌else◌}
 use Rattle.std.specs.Ordering.{int_eq}
 use Rattle.den_model.specs.declared.reply.NodeMeta.{NodeMeta}
 use Rattle.den_member.specs.Answers.{ChangeOutcome, done, refused}

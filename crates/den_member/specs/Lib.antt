@@ -1,5 +1,6 @@
 pub mod Addresses
 pub mod Answers
+pub mod Backoff
 pub mod Cache
 pub mod Changes
 pub mod Connecting
@@ -10,4 +11,5 @@ pub mod Numbered
 pub mod Numbers
 pub mod Queries
 pub mod Raft
+pub mod Snapshots
 pub mod Status

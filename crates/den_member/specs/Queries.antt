@@ -1,5 +1,5 @@
 -- What is asked of the members.
-use Rattle.std.specs.Prelude.{◌≡◌, ℕ, ℤ, pos, ◌==◌, ◌&&◌, ◌||◌, not, Bool, true, List, map, filter, is_some, Option, Some, None, Result, Ok, Err, MatchOption, IsSomeAnd, if◌then◌else◌}
+use Rattle.std.specs.Prelude.{◌≡◌, ℕ, ℤ, pos, ◌==◌, ◌&&◌, not, Bool, true, List, map, filter, is_some, Option, Some, None, Result, Ok, Err, MatchOption, IsSomeAnd, if◌then◌else◌}
 use Rattle.std.specs.Ordering.{int_eq}
 use Rattle.den_model.specs.declared.reply.ClusterMembership.{ClusterMembership}
 use Rattle.den_model.specs.declared.reply.NodeMeta.{NodeMeta}

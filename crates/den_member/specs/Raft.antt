@@ -1,5 +1,5 @@
 -- A node's view of its cluster.
-use Rattle.std.specs.Prelude.{◌≡◌, ℕ, Bool, true, false, List, [], length, Option, Some, None, Result, Ok, Err, IfOk, IfErr, IfSome, IfNone, MatchOption}
+use Rattle.std.specs.Prelude.{◌≡◌, ℕ, Bool, true, false, List, [], length, Option, Some, None, Result, Ok, IfOk, IfErr, IfSome, IfNone, MatchOption}
 use Rattle.std.specs.Borrow.{Bor}
 use Rattle.den_disk.specs.Goes.{Rose}
 use Rattle.den_model.specs.declared.reply.NodeMeta.{NodeMeta}

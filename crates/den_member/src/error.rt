@@ -39,6 +39,9 @@ pub enum MemberError {
     /// A connection could not be made.
     #[error("connect fault")]
     ConnectFault,
+    /// A task was tried as often as its policy allows, and failed each time.
+    #[error("task failed {tries} times")]
+    TaskBackoffFailed { tries: u32 },
     #[error("membership: {0}")]
     Membership(MembershipError),
 }

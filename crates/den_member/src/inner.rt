@@ -63,10 +63,9 @@ impl InnerState {
         })
     }
 
-    /// An equal value. It is refused for want of memory alone.
-    pub fn copy(&self, alloc: Global) -> Result<InnerState, MemberError>
-        ensures same { IfOk result (λ copy. copy ≡ self.now) }
-        ensures refused { IfErr result (λ e. e ≡ OutOfMemory) }
+    /// An equal value.
+    pub fn copy(&self, alloc: Global) -> Result<InnerState, AllocError>
+        ensures { IfOk result (λ copy. copy ≡ self.now) }
     {
         let mut nodes = BTreeMap::new(alloc);
         for (id, node) in self.nodes.iter() {

@@ -11,6 +11,7 @@ ghost use Rattle.den_member.specs.Members.{next_version};
 ghost use Rattle.den_member.specs.Numbered.{at, is_held};
 ghost use Rattle.den_member.specs.Queries.{IsAddressAt, all_nodes, ids_that, membership_under, nodes_of_status, peers_of, rejoins, status_at, voters_of};
 ghost use Rattle.den_member.specs.Raft.{Fails, IsFresh, KeepsOwn, KeepsRest, Reaches, dropped_by, dropped_if, is_success, without_option};
+ghost use Rattle.den_member.specs.Snapshots.{snapshot_of};
 ghost use Rattle.den_member.specs.Status.{status_number};
 ghost use Rattle.den_member.specs.declared.error.MemberError.TheVariants.{OutOfMemory};
 
@@ -18,14 +19,17 @@ use crate::leading::asked_change;
 use crate::node_filter::NodeFilter;
 use crate::{
     ClusterConfChangeRequest, ClusterConfUpdateResponse, ConfOutcome, ConnectionCache,
-    ConnectionType, Connector, HealthMonitor, InnerState, MemberError, MembershipChange,
-    NodeChange, NodeStatus, RaftHealthMonitor,
+    ConnectionType, Connector, HealthMonitor, InnerState, Latest, LatestReceiver, MemberError,
+    MembershipChange, MembershipSnapshot, NodeChange, NodeStatus, RaftHealthMonitor,
 };
 use den_codec::RaftNodeConfig;
 use den_model::{ClusterMembership, Label, NodeMeta, Rows};
 use std::alloc::Global;
+use std::fmt;
+use std::fmt::{Debug, Formatter, Write};
+use std::sync::Wait;
 
-/// A node's view of its cluster: the nodes, which of its peers fail, and its channels to them.
+/// A node's view of its cluster: the nodes, which of its peers fail, its channels to them, and what was told of the nodes last.
 #[derive(Drop)]
 pub struct RaftMembership<X> {
     alloc: Global,
@@ -34,6 +38,7 @@ pub struct RaftMembership<X> {
     membership: InnerState,
     monitor: RaftHealthMonitor,
     cache: ConnectionCache<X>,
+    latest: Latest<MembershipSnapshot>,
 }
 
 /// The node whose channels a change drops, if it drops some.
@@ -63,6 +68,13 @@ fn is_success(outcome: ConfOutcome) -> bool
     outcome == ConfOutcome::Success
 }
 
+/// Prints the node's id alone.
+impl<X> Debug for RaftMembership<X> {
+    fn fmt<W: Write>(&self, f: &mut Formatter<W>) -> fmt::Result {
+        write!(f, "RaftMembership {{ node_id: {} }}", self.node_id)
+    }
+}
+
 impl<X: Drop> RaftMembership<X> {
     ghost use Rattle.std.specs.Prelude.{⊤};
     ghost use Rattle.std.specs.Borrow.{follows_so, sem};
@@ -84,13 +96,16 @@ impl<X: Drop> RaftMembership<X> {
         ensures refused { IfErr result (λ e. e ≡ OutOfMemory) }
     {
         let initial_size = initial_nodes.as_slice().len();
+        let membership = InnerState::new(alloc, initial_nodes, 0)?;
+        let latest = Latest::new(alloc, membership.snapshot(alloc, 0)?)?;
         Ok(RaftMembership {
             alloc,
             node_id,
             initial_size,
-            membership: InnerState::new(alloc, initial_nodes, 0)?,
+            membership,
             monitor: RaftHealthMonitor::new(alloc, config.raft.zombie_threshold),
             cache: ConnectionCache::new(alloc),
+            latest,
         })
     }
 
@@ -332,6 +347,35 @@ impl<X: Drop> RaftMembership<X> {
             self.drop_channels(dropped_if(asked_change(req)));
         }
         Ok(response)
+    }
+
+    /// Sends a snapshot of the nodes behind the change of this index.
+    fn send_snapshot<W: Wait>(&self, rt: &W, index: u64, snapshot: MembershipSnapshot)
+        requires { snapshot ≡ snapshot_of self.now.membership index }
+    {
+        self.latest.send(rt, snapshot);
+    }
+
+    /// Tells the receivers of `subscribe_membership` who is a member and who learns, behind the change that the log has at this
+    /// index. It may wait for one of them. On a refusal, which is for want of memory alone, nothing is sent.
+    pub fn notify_config_applied<W: Wait>(&mut self, rt: &W, index: u64) -> Result<(), MemberError>
+        ensures same { self.new ≡ self.old }
+        ensures refused { IfErr result (λ e. e ≡ OutOfMemory) }
+    {
+        let snapshot = self.membership.snapshot(self.alloc, index)?;
+        self.send_snapshot(rt, index, snapshot);
+        Ok(())
+    }
+
+    /// A receiver of what `notify_config_applied` sends, which finds the last snapshot at once: that of the nodes of the
+    /// beginning, at index 0, where none was sent. It is refused for want of memory alone.
+    pub fn subscribe_membership<W: Wait>(
+        &self,
+        rt: &W,
+    ) -> Result<LatestReceiver<MembershipSnapshot>, MemberError>
+        ensures { IfErr result (λ e. e ≡ OutOfMemory) }
+    {
+        self.latest.subscribe(rt)
     }
 
     /// Whether a node of the role may join: `NotLearner` comes exactly where it is no learner, then `NodeAlreadyExists`

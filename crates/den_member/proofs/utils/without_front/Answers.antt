@@ -1,6 +1,6 @@
-use Rattle.std.proofs.Common.{◌≡◌, ◌≢◌, ℕ, ◌<◌, length, List, [], ◌∷◌, ◌++◌, Option, Some, None, IfSome, refl, sym, append_assoc, arith}
+use Rattle.std.proofs.Common.{◌≡◌, ◌≢◌, ℕ, ◌<◌, length, List, [], ◌∷◌, ◌++◌, Some, None, IfSome, refl, sym, append_assoc, arith}
 use Rattle.std.specs.Str.Pattern.{CutsPrefixes, FindsTextPrefix, IsFullyTrimmed}
-use Rattle.den_member.specs.Addresses.{times, IsWithoutFront}
+use Rattle.den_member.specs.Addresses.{times}
 use Rattle.den_member.proofs.utils.without_front.Goals as goal
 
 -- what was cut off is the front, so many times

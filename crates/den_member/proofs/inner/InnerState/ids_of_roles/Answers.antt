@@ -1,4 +1,4 @@
-use Rattle.std.proofs.Common.{◌≡◌, ◌∷◌, ◌++◌, ◌∙◌, [], ℕ, ℤ, Bool, true, ap, sym, map, filter, List, rules, to_z, of_z, w32}
+use Rattle.std.proofs.Common.{◌≡◌, ◌∷◌, ◌++◌, ◌∙◌, [], true, ap, sym, map, filter, rules, to_z, of_z, w32}
 use Rattle.den_model.specs.declared.reply.NodeMeta.{NodeMeta}
 use Rattle.den_member.specs.Numbered.{Numbered}
 use Rattle.den_member.proofs.Members.{kept_next}

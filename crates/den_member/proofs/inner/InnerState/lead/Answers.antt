@@ -1,6 +1,5 @@
 use Rattle.std.proofs.Common.{◌≡◌, true, refl, rules}
 use Rattle.den_member.specs.Members.{is_listed}
-use Rattle.den_member.proofs.Members.{makes_from}
 use Rattle.den_member.proofs.inner.InnerState.lead.Goals as goal
 
 pub returns-then-contains : goal.returns-then-contains

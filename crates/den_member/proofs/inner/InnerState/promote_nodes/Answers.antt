@@ -1,8 +1,8 @@
 use Rattle.std.proofs.Common.{◌≡◌, ◌+◌, ℕ, ℤ, List, ◌∷◌, [], drop, sym, ap, ◌∙◌, subst, slice_index, rules}
-use Rattle.std.specs.Prelude.{Ok, Err}
+use Rattle.std.specs.Prelude.{Err}
 use Rattle.std.proofs.lemmas.List.{drop_all, drop_more}
 use Rattle.den_member.specs.Answers.{Comes, ChangeOutcome}
-use Rattle.den_member.specs.Changes.{promoted_all, promoted_one}
+use Rattle.den_member.specs.Changes.{promoted_all}
 use Rattle.den_member.specs.Status.{status_number}
 use Rattle.den_member.proofs.Members.{all_promoted, one_more, stopped}
 use Rattle.den_member.proofs.inner.InnerState.promote_nodes.Goals as goal

@@ -1,4 +1,4 @@
-use Rattle.std.proofs.Common.{◌≡◌, ◌+◌, ℕ, ℤ, List, ◌∷◌, [], drop, sym, ap, ◌∙◌, slice_index, rules, w32, to_z, of_z}
+use Rattle.std.proofs.Common.{◌≡◌, ◌+◌, ℕ, ℤ, List, ◌∷◌, [], drop, sym, ap, ◌∙◌, slice_index, w32, to_z, of_z}
 use Rattle.std.proofs.lemmas.Int.{to_z-of_z}
 use Rattle.std.proofs.lemmas.List.{drop_all, drop_more}
 use Rattle.den_member.specs.Leading.{ready, readied}

@@ -1,4 +1,4 @@
-use Rattle.std.proofs.Common.{◌≡◌, Some, None, ap, refl, ◌∙◌, rules}
+use Rattle.std.proofs.Common.{◌≡◌, Some, ap, refl, ◌∙◌, rules}
 use Rattle.std.specs.BTreeMap.{get, is_at}
 use Rattle.std.specs.Fn.{FnOnceReturnsAtMut}
 use Rattle.std.specs.Map.{set_value}
