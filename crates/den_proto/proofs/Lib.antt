@@ -1,0 +1,4 @@
+pub mod Numbers
+pub mod Ids
+pub mod Again
+pub mod WorkedConversions
