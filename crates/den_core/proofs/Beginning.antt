@@ -3,13 +3,12 @@ use Rattle.std.proofs.Common.{◌≡◌, ℕ, ◌≤◌, List, [], ◌∷◌, �
 use Rattle.std.proofs.lemmas.List.{append-nil}
 use Rattle.den_disk.specs.Files.{Files}
 use Rattle.den_disk.specs.Goes.{Extends, added}
-use Rattle.den_model.specs.declared.log_id.LogId.{LogId}
 use Rattle.den_model.specs.declared.request.Frame.{Frame}
 use Rattle.den_model.specs.Crash.{Survives, Stands, IsWhole, IsDone, IsAnswered, IsServed, bytes_of}
 use Rattle.den_model.specs.Grown.{IsLogAfter}
 use Rattle.den_model.specs.Kv.{Durable, Kv}
 use Rattle.den_model.specs.Log.{Log}
-use Rattle.den_model.specs.Plan.{after, output, logged, new_term, first_cleanup, opening, turns, plan}
+use Rattle.den_model.specs.Plan.{after, output, new_term, first_cleanup, opening, turns, plan}
 use Rattle.den_model.specs.Step.{Step, Raise, Noop, Cleanup, leads, moment_of}
 use Rattle.den_model.proofs.Runs.{output_append}
 use Rattle.den_core.proofs.FramesSoFar.{turns_none}
@@ -17,7 +16,6 @@ use Rattle.den_core.proofs.Lists.{added_is, added_none, added_twice, extends_by}
 use Rattle.den_core.proofs.Reached.{begun_reached, reached_behind}
 use Rattle.den_core.proofs.Stretch.{goes_on, whole_twice}
 use Rattle.den_core.specs.Full.{IsBegun, IsReached}
-use Rattle.den_core.specs.Trimmed.{logged_after}
 
 -- a new term sends nothing
 quiet_term : (kv : Kv) (leading : Bool) (moment : ℕ) → output kv (if leading then Raise ∷ Noop moment ∷ [] else []) ≡ []
@@ -36,25 +34,6 @@ opening_quiet kv moment =
     output_append kv (new_term kv moment) (first_cleanup kv moment)
     ∙ ap (λ l. l ++ output begun (first_cleanup kv moment)) (quiet_term kv (leads kv) moment)
     ∙ quiet_cleanup begun kv.running.setting.lease moment
-
--- one that does not lead logs nothing then
-follower_logs : (kv : Kv) (leading lease : Bool) (moment : ℕ) → leading ≡ false
-    → logged kv ((if leading then Raise ∷ Noop moment ∷ [] else []) ++ (if lease then Cleanup moment ∷ [] else [])) ≡ []
-follower_logs kv true lease moment never = cc
-follower_logs kv false true moment is = refl
-follower_logs kv false false moment is = refl
-
-short_behind : (kv : Kv) (leading : Bool) (moment most now_most : ℕ) (mark : LogId) (old new : Log) → leads kv ≡ leading → now_most ≡ most → (leads kv ≡ true → length new.entries ≤ now_most)
-    → new ≡ logged_after most mark old (logged kv (opening kv moment)) → length old.entries ≤ most → length new.entries ≤ now_most
-short_behind kv true moment most now_most mark old new lead same led is short = led lead
-short_behind kv false moment most now_most mark old new lead same led is short =
-    let still : new ≡ old = is ∙ ap (logged_after most mark old) (follower_logs kv (leads kv) kv.running.setting.lease moment lead) in
-    omega (arith, same, short, ap (λ (l : Log). length l.entries) still)
-
--- a log that was short is so behind the opening, whether it leads or not
-pub opening_short : (kv : Kv) (moment most now_most : ℕ) (mark : LogId) (old new : Log) → now_most ≡ most → (leads kv ≡ true → length new.entries ≤ now_most)
-    → new ≡ logged_after most mark old (logged kv (opening kv moment)) → length old.entries ≤ most → length new.entries ≤ now_most
-opening_short kv moment most now_most mark old new = short_behind kv (leads kv) moment most now_most mark old new refl
 
 -- the opening at a reading, which is the first of those that were taken
 module _ (kv : Kv) (all : List Frame) (reading moment : ℕ) (is_moment : moment ≡ moment_of reading) (opened : Kv) (r0 r1 r2 : List ℕ)

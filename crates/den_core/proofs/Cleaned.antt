@@ -88,14 +88,8 @@ first_set false b is = is
 pub due_leased : (kv : Kv) (time : ℕ) → is_due kv time ≡ true → kv.running.setting.lease ≡ true
 due_leased kv time is = first_set kv.running.setting.lease _ is
 
-pub due_made : (kv : Kv) (time : ℕ) → is_due kv time ≡ true → due_cleanup kv time ≡ Cleanup time ∷ []
-due_made kv time is = ap (λ b. if b then Cleanup time ∷ [] else []) is
-
 pub due_none : (kv : Kv) (time : ℕ) → is_due kv time ≡ false → due_cleanup kv time ≡ []
 due_none kv time is = ap (λ b. if b then Cleanup time ∷ [] else []) is
-
-pub first_made : (kv : Kv) (time : ℕ) → kv.running.setting.lease ≡ true → first_cleanup kv time ≡ Cleanup time ∷ []
-first_made kv time is = ap (λ b. if b then Cleanup time ∷ [] else []) is
 
 pub first_none : (kv : Kv) (time : ℕ) → kv.running.setting.lease ≡ false → first_cleanup kv time ≡ []
 first_none kv time is = ap (λ b. if b then Cleanup time ∷ [] else []) is

@@ -15,6 +15,7 @@ pub mod Fronts
 pub mod GoesOn
 pub mod Keeping
 pub mod Lists
+pub mod Opened
 pub mod Quiet
 pub mod Reached
 pub mod Refusing

@@ -1,23 +1,25 @@
 -- A log whose entries the map has all: how long it is, and what a purge up to the map's mark leaves of it.
-use Rattle.std.proofs.Common.{◌≡◌, ℕ, ◌≤◌, ◌<◌, ◌+◌, ◌-◌, true, false, List, [], ◌∷◌, ◌++◌, length, Some, cond, nat_lt, if◌then◌else◌, inl, inr, refl, sym, ◌∙◌, ap, subst, arith, length-append}
+use Rattle.std.proofs.Common.{◌≡◌, ℕ, ◌≤◌, ◌<◌, ◌+◌, ◌-◌, ℤ, ◌==◌, ◌||◌, not, Bool, true, false, List, [], ◌∷◌, ◌++◌, length, Option, Some, None, cond, nat_lt, if◌then◌else◌, inl, inr, refl, sym, ◌∙◌, ap, subst, arith, length-append}
 use Rattle.std.specs.List.{All}
-use Rattle.std.proofs.lemmas.Bool.{and_parts, cases_lt, le-ltb, lt-ltb, ltb-false, ltb-true}
-use Rattle.std.proofs.lemmas.List.Elements.{All-nil, All-cons}
+use Rattle.std.proofs.lemmas.Bool.{and_parts, cases_lt, eq-eqb, eqb-true, le-ltb, lt-ltb, ltb-false, ltb-true}
+use Rattle.std.proofs.lemmas.List.Elements.{All-nil, All-cons, All-head, All-tail}
 use Rattle.den_model.specs.declared.log_id.LogId.{LogId}
 use Rattle.den_model.specs.declared.region.LogRegion.TheVariants.{Append, Purge}
 use Rattle.den_model.specs.Entries.{LogEntry, rise_above}
 use Rattle.den_model.specs.Grown.{HasTermOf, IsPurgedUpTo}
 use Rattle.den_model.specs.Log.{Log, above, below, changed, floor, last_index, last_of}
 use Rattle.den_model.specs.MapState.{MapState, map_applied}
+use Rattle.den_model.specs.Step.{is_leader}
 use Rattle.den_model.specs.Spelling.{log_region_word, u64_word}
 use Rattle.den_model.proofs.Numbers.{length_u64_word}
 use Rattle.den_journal.specs.Drafts.{anew_words, IsSizeOf}
 use Rattle.den_store.specs.Changes.{purge_words}
-use Rattle.den_store.specs.Lookup.{rest_region}
+use Rattle.den_store.specs.Lookup.{entry_of, rest_region}
 use Rattle.den_store.specs.Order.{IsInOrder}
 use Rattle.den_core.specs.Parts.{IsCaughtUp}
-use Rattle.den_core.specs.Trimmed.{logged_after, trimmed}
-use Rattle.den_core.proofs.Durables.{AllUpTo, up_to}
+use Rattle.den_core.specs.Trimmed.{last_id, last_term_of, logged_after, opened_log, trimmed}
+use Rattle.den_core.proofs.CatchUp.{rising_up_to}
+use Rattle.den_core.proofs.Durables.{AllUpTo, none_above, up_to, up_to_more}
 use Rattle.den_core.proofs.Weighing.{one_size}
 
 -- ---- how many entries there are
@@ -47,40 +49,137 @@ last_up_to most index (e ∷ es) le within = last_up_to most e.index es within.0
 pub last_within : (l : Log) (s : MapState) → IsCaughtUp l s → last_index l ≤ s.mark.index
 last_within l s caught = last_up_to s.mark.index (floor l) l.entries caught.purged (up_to s.mark.index l.entries caught.applied)
 
--- a log that is too long has entries, all of them up to the mark
-pub mark_above : (l : Log) (s : MapState) (most : ℕ) → IsCaughtUp l s → nat_lt most (last_index l - floor l) ≡ true → floor l < s.mark.index
-mark_above l s most caught long =
-    omega (arith, ltb-true most (last_index l - floor l) long, last_within l s caught)
+-- a log that is too long has entries, none of them above the id
+pub mark_above : (l : Log) (id : LogId) (most : ℕ) → last_index l ≤ id.index → nat_lt most (last_index l - floor l) ≡ true → floor l < id.index
+mark_above l id most last long = omega (arith, last, ltb-true most (last_index l - floor l) long)
+
+-- where the last index is at most this one, no entry is above it
+pub none_behind : (l : Log) (index : ℕ) → IsInOrder l → last_index l ≤ index → above index l.entries ≡ []
+none_behind l index order last =
+    none_above index l.entries (up_to_more (last_index l) index l.entries last (rising_up_to (floor l) l.entries order.rises).1)
 
 -- no entry, behind a boundary
 bare : LogId → Log
 bare id = record { boundary = Some id; entries = [] }
 
-module _ (l : Log) (s : MapState) (caught : IsCaughtUp l s) (over : floor l < s.mark.index) where
-  bare_is : changed l (Purge s.mark.index s.mark.term) ≡ bare s.mark
+module _ (l : Log) (id : LogId) (none : above id.index l.entries ≡ []) (over : floor l < id.index) where
+  bare_is : changed l (Purge id.index id.term) ≡ bare id
   unfolding bare
   bare_is =
-      ap (λ b. if b then record { boundary = Some s.mark; entries = above s.mark.index l.entries } else l) (lt-ltb (floor l) s.mark.index over)
-      ∙ ap (λ (es : List LogEntry). let x : Log = record { boundary = Some s.mark; entries = es } in x) caught.applied
+      ap (λ b. if b then record { boundary = Some id; entries = above id.index l.entries } else l) (lt-ltb (floor l) id.index over)
+      ∙ ap (λ (es : List LogEntry). let x : Log = record { boundary = Some id; entries = es } in x) none
 
-  module _ (new : Log) (is : new ≡ changed l (Purge s.mark.index s.mark.term)) where
-    pub trimmed_caught_up : IsCaughtUp new s
+  module _ (new : Log) (is : new ≡ changed l (Purge id.index id.term)) where
+    pub trimmed_caught_up : (s : MapState) → id.index ≤ s.mark.index → IsCaughtUp new s
     unfolding bare
-    trimmed_caught_up = subst (λ x. IsCaughtUp x s) (sym (is ∙ bare_is)) (record { purged = omega arith; applied = refl })
+    trimmed_caught_up s within = subst (λ x. IsCaughtUp x s) (sym (is ∙ bare_is)) (record { purged = within; applied = refl })
 
     pub trimmed_short : (most : ℕ) → length new.entries ≤ most
     unfolding bare
     trimmed_short most = subst (λ (x : Log). length x.entries ≤ most) (sym (is ∙ bare_is)) (omega arith)
 
-    pub trimmed_is : HasTermOf l s.mark → IsPurgedUpTo s.mark.index l new
-    trimmed_is ends = inr (s.mark, over, omega arith, ends, is)
+    pub trimmed_is : (most : ℕ) → id.index ≤ most → HasTermOf l id → IsPurgedUpTo most l new
+    trimmed_is most within ends = inr (id, over, within, ends, is)
 
--- the payload of a purge up to the mark: no entry is left
-pub trimmed_words : (l : Log) (s : MapState) → IsCaughtUp l s → (cutoff : LogId) → cutoff ≡ s.mark → (n : ℕ) → IsSizeOf (purge_words l cutoff) n → n ≤ 17
-trimmed_words l s caught cutoff is n size =
-    let none : above cutoff.index l.entries ≡ [] = ap (λ (i : LogId). above i.index l.entries) is ∙ caught.applied in
-    let one = one_size (log_region_word (Purge cutoff.index cutoff.term)) n (subst (λ (es : List LogEntry). IsSizeOf (anew_words log_region_word (Purge cutoff.index cutoff.term) (rest_region es)) n) none size) in
-    omega (arith, one, length-append (u64_word cutoff.index) (u64_word cutoff.term), length_u64_word cutoff.index, length_u64_word cutoff.term)
+-- the payload of a purge up to an id, above which no entry is held: none is left
+pub trimmed_words : (l : Log) (id : LogId) → above id.index l.entries ≡ [] → (n : ℕ) → IsSizeOf (purge_words l id) n → n ≤ 17
+trimmed_words l id none n size =
+    let one = one_size (log_region_word (Purge id.index id.term)) n (subst (λ (es : List LogEntry). IsSizeOf (anew_words log_region_word (Purge id.index id.term) (rest_region es)) n) none size) in
+    omega (arith, one, length-append (u64_word id.index) (u64_word id.term), length_u64_word id.index, length_u64_word id.term)
+
+-- ---- the last entry of a log
+
+-- an entry that is found has the index, and what all have
+found_in : (P : LogEntry → Type 0) (i : ℕ) (b : Bool) (x e : LogEntry) (rest : Option LogEntry) → (x.index == i) ≡ b → cond b (Some x) rest ≡ Some e → P x → (rest ≡ Some e → (e.index ≡ i) × P e)
+    → (e.index ≡ i) × P e
+found_in P i true x e rest same found has more =
+    let is : x ≡ e = cc in
+    (subst (λ (y : LogEntry). y.index ≡ i) is (eqb-true x.index i same), subst P is has)
+found_in P i false x e rest same found has more = more found
+
+found_one : (P : LogEntry → Type 0) (i : ℕ) (es : List LogEntry) (e : LogEntry) → All P es → entry_of i es ≡ Some e → (e.index ≡ i) × P e
+found_one P i [] e all found = cc
+found_one P i (x ∷ es) e all found =
+    found_in P i (x.index == i) x e (entry_of i es) refl found (All-head P x es all) (found_one P i es e (All-tail P x es all))
+
+-- the last of some entries is found
+none_in : (b : Bool) (x : LogEntry) (rest : Option LogEntry) → cond b (Some x) rest ≡ None → rest ≡ None
+none_in true x rest none = cc
+none_in false x rest none = none
+
+last_found : (index : ℕ) (es : List LogEntry) → 1 ≤ length es → entry_of (last_of index es) es ≡ None → ⊥
+last_found index [] some none = absurd (omega arith)
+last_found index (e ∷ []) some none =
+    let is : Some e ≡ None = sym (ap (λ b. cond b (Some e) None) (eq-eqb e.index e.index refl)) ∙ none in cc
+last_found index (e ∷ x ∷ es) some none =
+    last_found e.index (x ∷ es) (omega arith) (none_in (e.index == last_of x.index es) e (entry_of (last_of x.index es) (x ∷ es)) none)
+
+long_some : (index most : ℕ) (es : List LogEntry) → nat_lt most (last_of index es - index) ≡ true → 1 ≤ length es
+long_some index most [] long = omega (arith, ltb-true most (index - index) long)
+long_some index most (e ∷ es) long = omega arith
+
+-- where the last is not found none is held
+pub none_last : (index : ℕ) (es : List LogEntry) → entry_of (last_of index es) es ≡ None → es ≡ []
+none_last index [] none = refl
+none_last index (e ∷ es) none = absurd (last_found index (e ∷ es) (omega arith) none)
+
+-- one that is too long holds entries
+pub long_holds : (l : Log) (most : ℕ) → nat_lt most (last_index l - floor l) ≡ true → l.entries ≡ [] → ⊥
+long_holds l most long none = omega (arith, long_some (floor l) most l.entries long, ap length none)
+
+-- each entry of the last index has the last term
+last_terms : (index term : ℕ) (es : List LogEntry) → rise_above index es ≡ true
+    → All (λ (e : LogEntry). e.index ≡ last_of index es → e.term ≡ last_term_of term es) es
+last_terms index term [] rises = All-nil (λ (e : LogEntry). e.index ≡ index → e.term ≡ term)
+last_terms index term (e ∷ []) rises =
+    let P : LogEntry → Type 0 = λ x. x.index ≡ e.index → x.term ≡ e.term in
+    All-cons P e [] (λ same. refl) (All-nil P)
+last_terms index term (e ∷ x ∷ es) rises =
+    let two = and_parts (nat_lt index e.index) (rise_above e.index (x ∷ es)) rises in
+    All-cons (λ (y : LogEntry). y.index ≡ last_of x.index es → y.term ≡ last_term_of x.term es) e (x ∷ es)
+    (λ same. absurd (omega (arith, same, rising_many e.index (x ∷ es) two.1)))
+    (last_terms e.index e.term (x ∷ es) two.1)
+
+pub ends_last : (l : Log) → IsInOrder l → HasTermOf l (last_id l)
+ends_last l order = last_terms (floor l) 0 l.entries order.rises
+
+-- the last entry that is found
+pub last_id_is : (l : Log) (e : LogEntry) → IsInOrder l → entry_of (last_index l) l.entries ≡ Some e → (let x : LogId = record { index = e.index; term = e.term } in x) ≡ last_id l
+last_id_is l e order found =
+    let two = found_one (λ (x : LogEntry). x.index ≡ last_index l → x.term ≡ last_term_of 0 l.entries) (last_index l) l.entries e (ends_last l order) found in
+    ap (λ n. let x : LogId = record { index = n; term = e.term } in x) two.0
+    ∙ ap (λ n. let x : LogId = record { index = last_index l; term = n } in x) (two.1 two.0)
+
+-- ---- the log of an engine as it was opened
+
+elim_still : (led long : Bool) (l purged : Log) → (led || not long) ≡ true → l ≡ (if led then l else if long then purged else l)
+elim_still true long l purged still = refl
+elim_still false true l purged still = cc
+elim_still false false l purged still = refl
+
+-- of one that leads, or whose log is short
+pub opened_still : (role : ℤ) (most : ℕ) (l : Log) (leads long : Bool) → leads ≡ is_leader role → long ≡ nat_lt most (last_index l - floor l) → (leads || not long) ≡ true → l ≡ opened_log role most l
+opened_still role most l leads long is_led is_long still =
+    elim_still (is_leader role) (nat_lt most (last_index l - floor l)) l (changed l (Purge (last_id l).index (last_id l).term))
+    (subst (λ b. (b || not (nat_lt most (last_index l - floor l))) ≡ true) is_led (subst (λ b. (leads || not b) ≡ true) is_long still))
+
+pub not_led : (leads long : Bool) → (leads || not long) ≡ false → leads ≡ false
+not_led true long is = is
+not_led false long is = refl
+
+not_long : (leads long : Bool) → (leads || not long) ≡ true → leads ≡ false → long ≡ false
+not_long true long still never = cc
+not_long false true still is = cc
+not_long false false still is = refl
+
+-- whose log is short, where it does not lead
+pub stays_short : (role : ℤ) (l : Log) (most : ℕ) (leads long : Bool) → IsInOrder l → leads ≡ is_leader role → long ≡ nat_lt most (last_index l - floor l) → (leads || not long) ≡ true → is_leader role ≡ false
+    → length l.entries ≤ most
+stays_short role l most leads long order is_led is_long still follows = few_entries l most order (sym is_long ∙ not_long leads long still (is_led ∙ follows))
+
+-- of one that does not
+pub opened_trimmed : (role : ℤ) (most : ℕ) (l : Log) → is_leader role ≡ false → trimmed most (last_id l) l ≡ opened_log role most l
+opened_trimmed role most l follows = sym (ap (λ b. if b then l else trimmed most (last_id l) l) follows)
 
 -- ---- an entry that was applied
 

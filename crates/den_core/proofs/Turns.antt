@@ -20,6 +20,7 @@ use Rattle.den_model.specs.Plan.{after, first_cleanup, logged, opening, output}
 use Rattle.den_model.specs.Step.{Step, Raise, Noop, Cleanup, Ask, Outcome, answer, committed, leads, next_entry, says}
 use Rattle.den_model.specs.Crash.{Survives}
 use Rattle.den_disk.specs.Families.{OldOrNew}
+use Rattle.den_state.specs.Machine.{Settings}
 use Rattle.den_core.specs.declared.run.Run.{Run}
 use Rattle.den_core.specs.Full.{IsBegun}
 use Rattle.den_core.specs.Making.{CanGoOn, ChangesStores, IsCallTooShort, IsStepRefused, IsUntouched, Makes, Says, Seen}
@@ -189,14 +190,15 @@ pub record IsAside (one two : Seen) (running : Running) : Type 0 where
   pub rests : (content : Content) → one.rests content → two.rests content
 
 -- it can go on with another run's part that goes with it
-pub ready_aside : (log_ready meta_ready state_ready : Type 0) (l : Log) (s : MapState) (role : ℤ) (leased : Bool) (one two : Run) → two.role ≡ one.role → two.lease ≡ one.lease
-    → IsReady log_ready meta_ready state_ready l s role leased one → IsReady log_ready meta_ready state_ready l s role leased two
-ready_aside log_ready meta_ready state_ready l s role leased one two same_role same_lease ready = record {
+pub ready_aside : (log_ready meta_ready state_ready : Type 0) (l : Log) (s : MapState) (role : ℤ) (settings : Settings) (one two : Run) → two.role ≡ one.role → two.lease ≡ one.lease
+    → IsReady log_ready meta_ready state_ready l s role settings one → IsReady log_ready meta_ready state_ready l s role settings two
+ready_aside log_ready meta_ready state_ready l s role settings one two same_role same_lease ready = record {
   log = ready.log;
   meta = ready.meta;
   state = ready.state;
   caught_up = ready.caught_up;
   goes_with = record { role_is = same_role ∙ ready.goes_with.role_is; lease_is = same_lease ∙ ready.goes_with.lease_is };
+  runs = ready.runs;
 }
 
 -- a call that left all as it was, behind a cleanup that took nothing and of which no moment is kept

@@ -1,5 +1,5 @@
 -- How long the words are that an engine hands its stores, and when a disk may be told to be full of them.
-use Rattle.std.proofs.Common.{◌≡◌, ◌⊎◌, inl, inr, ℕ, ◌≤◌, ◌+◌, ◌-◌, ◌*◌, List, [], ◌∷◌, ◌++◌, length, Option, Some, None, Result, Ok, Err, IfErr, sym, ap, subst, arith, length-append}
+use Rattle.std.proofs.Common.{◌≡◌, ◌⊎◌, inl, inr, ℕ, ℤ, ◌≤◌, ◌+◌, ◌-◌, ◌*◌, true, false, List, [], ◌∷◌, ◌++◌, length, Option, Some, None, Result, Ok, Err, IfErr, sym, ◌∙◌, ap, subst, arith, length-append}
 use Rattle.std.specs.Prelude.{IfSome}
 use Rattle.std.specs.Result.{IsErrAnd}
 use Rattle.den_codec.specs.Full.{IsHeavy}
@@ -13,7 +13,8 @@ use Rattle.den_journal.specs.Causes.{IsFullFor, IsTooShort}
 use Rattle.den_journal.specs.Drafts.{IsSizeOf}
 use Rattle.den_core.specs.Full.{IsFullBy, IsSlotTooShort, IsStepTooShort}
 use Rattle.den_core.specs.Weights.{ask_rise}
-use Rattle.den_core.specs.PayloadSizes.{PayloadSizes, chunk_sizes, entry_sizes, step_sizes, trim_sizes}
+use Rattle.den_core.specs.PayloadSizes.{PayloadSizes, chunk_sizes, entry_sizes, opened_sizes, opened_trim_sizes, step_sizes, trim_sizes}
+use Rattle.den_core.specs.Trimmed.{last_id}
 use Rattle.den_model.specs.declared.log_id.LogId.{LogId}
 use Rattle.den_model.specs.declared.region.LogRegion.TheVariants.{Append}
 use Rattle.den_model.specs.Kv.{Kv}
@@ -34,7 +35,7 @@ use Rattle.den_model.specs.declared.request.Frame.TheVariants.{Good, Bad}
 use Rattle.den_model.specs.Entries.{LogEntry}
 use Rattle.den_model.specs.Sizes.{entries_size, frame_size}
 use Rattle.den_model.specs.Spelling.{u32_word, u64_word, blob_word, option_word, vote_word, hard_state_word, command_word, entry_word, ttl_word, operation_word, request_word}
-use Rattle.den_model.specs.Step.{Step, command_of}
+use Rattle.den_model.specs.Step.{Step, command_of, is_leader}
 use Rattle.den_model.specs.Reading.{request_in}
 use Rattle.den_model.specs.Words.{IsBytes, IsRequestWord}
 use Rattle.den_model.proofs.RequestWords.{request_found}
@@ -175,6 +176,81 @@ trim_among most same l mid m mark e same_most joined same_mark =
     (subst (λ x. AreAmong (trim_sizes most x mark) (entry_sizes most l m (e ∷ []))) (sym joined)
     (subst (λ i. AreAmong (trim_sizes most (changed l (Append (e ∷ []))) i) (entry_sizes most l m (e ∷ []))) (sym same_mark)
     (record { adds = trim_adds most l m e; drafts = trim_drafts most l m e })))
+
+-- ---- what an opening writes before its steps
+
+module _ (role : ℤ) (most : ℕ) (l : Log) where
+  -- the entries that the map takes on
+  brought_adds : (m : MapState) (chunk : List LogEntry) (family : Family) (n : ℕ) → (chunk_sizes m chunk).adds family n → (opened_sizes role most l m chunk).adds family n
+  brought_adds m chunk log_family n is = absurd is
+  brought_adds m chunk meta_family n is = absurd is
+  brought_adds m chunk state_family n is = is
+  brought_adds m chunk snapshot_family n is = absurd is
+
+  brought_drafts : (m : MapState) (chunk : List LogEntry) (family : Family) (n : ℕ) → (chunk_sizes m chunk).drafts family n → (opened_sizes role most l m chunk).drafts family n
+  brought_drafts m chunk log_family n is = absurd is
+  brought_drafts m chunk meta_family n is = absurd is
+  brought_drafts m chunk state_family n is = is
+  brought_drafts m chunk snapshot_family n is = absurd is
+
+  pub brought_among : (m : MapState) (chunk : List LogEntry) → AreAmong (chunk_sizes m chunk) (opened_sizes role most l m chunk)
+  brought_among m chunk = record { adds = brought_adds m chunk; drafts = brought_drafts m chunk }
+
+  -- the purge of one that does not lead
+  purge_adds : (m : MapState) (chunk : List LogEntry) (family : Family) (n : ℕ) → (opened_trim_sizes role most l).adds family n → (opened_sizes role most l m chunk).adds family n
+  purge_adds m chunk log_family n is = absurd is
+  purge_adds m chunk meta_family n is = absurd is
+  purge_adds m chunk state_family n is = absurd is
+  purge_adds m chunk snapshot_family n is = absurd is
+
+  purge_drafts : (m : MapState) (chunk : List LogEntry) (family : Family) (n : ℕ) → (opened_trim_sizes role most l).drafts family n → (opened_sizes role most l m chunk).drafts family n
+  purge_drafts m chunk log_family n is = is
+  purge_drafts m chunk meta_family n is = absurd is
+  purge_drafts m chunk state_family n is = absurd is
+  purge_drafts m chunk snapshot_family n is = absurd is
+
+  purge_among : (m : MapState) (chunk : List LogEntry) → AreAmong (opened_trim_sizes role most l) (opened_sizes role most l m chunk)
+  purge_among m chunk = record { adds = purge_adds m chunk; drafts = purge_drafts m chunk }
+
+  last_adds : (family : Family) (n : ℕ) → (trim_sizes most l (last_id l)).adds family n → (opened_trim_sizes role most l).adds family n
+  last_adds log_family n is = absurd is
+  last_adds meta_family n is = absurd is
+  last_adds state_family n is = absurd is
+  last_adds snapshot_family n is = absurd is
+
+  last_drafts : is_leader role ≡ false → (family : Family) (n : ℕ) → (trim_sizes most l (last_id l)).drafts family n → (opened_trim_sizes role most l).drafts family n
+  last_drafts follows log_family n is = (follows, is)
+  last_drafts follows meta_family n is = absurd is
+  last_drafts follows state_family n is = absurd is
+  last_drafts follows snapshot_family n is = absurd is
+
+  pub last_among : is_leader role ≡ false → (id : LogId) → id ≡ last_id l → AreAmong (trim_sizes most l id) (opened_trim_sizes role most l)
+  last_among follows id is = subst (λ i. AreAmong (trim_sizes most l i) (opened_trim_sizes role most l)) (sym is) (record { adds = last_adds; drafts = last_drafts follows })
+
+  -- under a core that leads nothing is purged
+  led_drafts : is_leader role ≡ true → (m : MapState) (chunk : List LogEntry) (family : Family) (n : ℕ) → (opened_sizes role most l m chunk).drafts family n → (chunk_sizes m chunk).drafts family n
+  led_drafts leads m chunk log_family n is = let never : true ≡ false = sym leads ∙ is.0 in cc
+  led_drafts leads m chunk meta_family n is = absurd is
+  led_drafts leads m chunk state_family n is = is
+  led_drafts leads m chunk snapshot_family n is = absurd is
+
+  led_adds : (m : MapState) (chunk : List LogEntry) (family : Family) (n : ℕ) → (opened_sizes role most l m chunk).adds family n → (chunk_sizes m chunk).adds family n
+  led_adds m chunk log_family n is = absurd is
+  led_adds m chunk meta_family n is = absurd is
+  led_adds m chunk state_family n is = is
+  led_adds m chunk snapshot_family n is = absurd is
+
+  pub led_among : is_leader role ≡ true → (m : MapState) (chunk : List LogEntry) → AreAmong (opened_sizes role most l m chunk) (chunk_sizes m chunk)
+  led_among leads m chunk = record { adds = led_adds m chunk; drafts = led_drafts leads m chunk }
+
+-- the purge, told of the engine
+pub purged_among : (role same_role : ℤ) (most same_most : ℕ) (l same : Log) (m : MapState) (chunk : List LogEntry) → same_role ≡ role → same_most ≡ most → same ≡ l
+    → AreAmong (opened_trim_sizes same_role same_most same) (opened_sizes role most l m chunk)
+purged_among role same_role most same_most l same m chunk is_role is_most is_log =
+    let all = opened_sizes role most l m chunk in
+    subst (λ r. AreAmong (opened_trim_sizes r same_most same) all) (sym is_role)
+    (subst (λ n. AreAmong (opened_trim_sizes role n same) all) (sym is_most)
+    (subst (λ x. AreAmong (opened_trim_sizes role most x) all) (sym is_log) (purge_among role most l m chunk)))
 
 -- ---- words
 

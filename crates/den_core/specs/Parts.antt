@@ -7,6 +7,7 @@ use Rattle.den_core.specs.declared.run.Run.{Run}
 use Rattle.den_model.specs.Log.{Log, floor, above}
 use Rattle.den_model.specs.MapState.{MapState, part_of}
 use Rattle.den_model.specs.Image.{term_of}
+use Rattle.den_state.specs.Machine.{Settings}
 
 -- the durable part where the map has each entry of the log
 abbrev pub durable_of : Option HardState → MapState → Durable
@@ -39,13 +40,14 @@ pub record GoesWith (role : ℤ) (leased : Bool) (run : Run) : Type 0 where
   pub role_is : run.role ≡ role
   pub lease_is : run.lease ≡ leased
 
--- none of the three stores has failed, and they go together, with the core and the run's part
-pub record IsReady (log_ready meta_ready state_ready : Type 0) (l : Log) (s : MapState) (role : ℤ) (leased : Bool) (run : Run) : Type 0 where
+-- None of the three stores has failed, and they go together, with the core and the run's part; and the state machine runs.
+pub record IsReady (log_ready meta_ready state_ready : Type 0) (l : Log) (s : MapState) (role : ℤ) (settings : Settings) (run : Run) : Type 0 where
   pub log : log_ready
   pub meta : meta_ready
   pub state : state_ready
   pub caught_up : IsCaughtUp l s
-  pub goes_with : GoesWith role leased run
+  pub goes_with : GoesWith role settings.leased run
+  pub runs : settings.running ≡ true
 
 -- one of the three stores has failed, or a step ended between its writes
 abbrev pub HasFailed : Bool → (log_ready meta_ready state_ready : Type 0) → Type 0

@@ -1,5 +1,5 @@
 -- What the steps of an engine write: the sizes of the payloads that go to each family's files.
-use Rattle.std.specs.Prelude.{◌≡◌, ℕ, ◌+◌, ◌-◌, List, [], ◌∷◌, Some, nat_lt, true}
+use Rattle.std.specs.Prelude.{◌≡◌, ℕ, ℤ, ◌+◌, ◌-◌, List, [], ◌∷◌, Some, nat_lt, true, false}
 use Rattle.den_disk.specs.declared.place.Family.{Family}
 use Rattle.den_disk.specs.declared.place.Family.TheVariants.{Log as log_family, Meta as meta_family, State as state_family, Snapshot as snapshot_family}
 use Rattle.den_model.specs.declared.log_id.HardState.{HardState}
@@ -10,10 +10,10 @@ use Rattle.den_model.specs.Grown.{appended}
 use Rattle.den_model.specs.Kv.{Durable, Kv}
 use Rattle.den_model.specs.Log.{Log, floor, last_index}
 use Rattle.den_model.specs.MapState.{MapState, map_applied_all}
-use Rattle.den_model.specs.Step.{Step, Raise, Noop, Cleanup, Ask, step}
+use Rattle.den_model.specs.Step.{Step, Raise, Noop, Cleanup, Ask, is_leader, step}
 use Rattle.den_store.specs.Changes.{log_change, purge_change, state_change}
 use Rattle.den_state.specs.Changes.{chunk_change, cleanup_change}
-use Rattle.den_core.specs.Trimmed.{mark_of}
+use Rattle.den_core.specs.Trimmed.{last_id, mark_of}
 
 -- By family: the sizes of the payloads that may be added to its slot in use, and of those that may be put into its
 -- other slot.
@@ -55,6 +55,21 @@ purge_size most l mark n = (nat_lt most (last_index l - floor l) ≡ true) × (p
 -- a log that may hold too many entries
 abbrev pub trim_sizes : (most : ℕ) → Log → LogId → PayloadSizes
 trim_sizes most l mark = record { adds = by_family no_size no_size no_size; drafts = by_family (purge_size most l mark) no_size no_size }
+
+-- what a purge of a log up to its own last entry writes, under a core that does not lead
+abbrev pub opened_size : (role : ℤ) (most : ℕ) → Log → ℕ → Type 0
+opened_size role most l n = (is_leader role ≡ false) × purge_size most l (last_id l) n
+
+-- that purge alone
+abbrev pub opened_trim_sizes : (role : ℤ) (most : ℕ) → Log → PayloadSizes
+opened_trim_sizes role most l = record { adds = by_family no_size no_size no_size; drafts = by_family (opened_size role most l) no_size no_size }
+
+-- What an opening writes before its steps: the entries that the map takes on, and that purge.
+abbrev pub opened_sizes : (role : ℤ) (most : ℕ) → Log → MapState → List LogEntry → PayloadSizes
+opened_sizes role most l m chunk = record {
+  adds = by_family no_size no_size (chunk_change m chunk).adds;
+  drafts = by_family (opened_size role most l) no_size (chunk_change m chunk).drafts;
+}
 
 -- entries that join the log, which the map takes on, and behind them a purge; where there are none nothing is written
 abbrev pub entry_sizes : (most : ℕ) → Log → MapState → List LogEntry → PayloadSizes

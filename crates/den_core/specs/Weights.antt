@@ -24,7 +24,7 @@ frame_rise frame = clean_rise + ask_rise frame
 
 -- the opening's steps write a hard state, an entry without effect and a cleanup
 abbrev pub opening_rise : ℕ
-opening_rise = 3840
+opening_rise = 3584
 
 -- what an engine comes to that began with this weight, by frames of so many bytes
 abbrev pub served_weight : (weight taken : ℕ) → ℕ

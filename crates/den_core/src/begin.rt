@@ -1,5 +1,5 @@
 //! An engine that is opened over stores, for those who embed one.
-ghost use Rattle.std.specs.Prelude.{◌≡◌, ◌+◌, [], IsTrue, IfOk, IfErr, IsSome, Some};
+ghost use Rattle.std.specs.Prelude.{◌≡◌, ◌+◌, [], IsTrue, IfOk, IfErr, IsSome, Some, true};
 ghost use Rattle.den_disk.specs.declared.place.Family.TheVariants.{Snapshot as snapshot_family};
 ghost use Rattle.den_disk.specs.Goes.{Rose, added, ClockGoesOn, DiskGoesOn};
 ghost use Rattle.den_model.specs.Crash.{Survives};
@@ -23,7 +23,7 @@ use std::alloc::Global;
 
 impl<G, T, M, K> Engine<G, T, M, K> {
     /// Opens an engine over stores as they were opened: brings them together, and makes the opening's steps at one reading of
-    /// the clock. A crash inside leaves what the stores stood for, or what some of these steps make of it. Where opening
+    /// the clock. A crash inside leaves what the stores stood for, or what some of these steps make of it. The state machine runs then. Where opening
     /// refuses nothing is written, and no reading taken.
     pub fn begin<D: Disk, C: Clock>(
         alloc: Global,
@@ -55,6 +55,7 @@ impl<G, T, M, K> Engine<G, T, M, K> {
         ensures opened { IfOk result (λ engine. IsOpened D.Disk (IsTrue (C.tells clock.new)) (G.shown log).value (T.shown meta).value (M.map state)
             (running_under config.now (K.view core) (M.settings state).leased) (added (C.readings clock.old) (C.readings clock.new)) config.now.raft.max_log_entries
             (begun_weight ((G.shown log).weight + (T.shown meta).weight + (M.shown state).weight) (G.shown log).value (M.map state)) (⟦<Engine<G, T, M, K> as Stepper<D>>⟧.seen engine) disk.old disk.new) }
+        ensures started { IfOk result (λ engine. (M.settings engine.state).running ≡ true) }
         ensures refused { IfErr result (λ e. IsOpeningFailure (Rose (D.faults disk.old) (D.faults disk.new)) (D.kind disk.old).limit
             (opening_refusal (M.settings state).leased (G.place log) (G.shown log).value (T.shown meta).value (M.map state)) e) }
         ensures full { IfErr result (IsFullBy (IsTrue (D.kind disk.old).tells × ⟦<Engine<G, T, M, K> as Stepper<D>>⟧.says.told)

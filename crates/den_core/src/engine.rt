@@ -41,7 +41,7 @@ pub struct Engine<G, T, M, K> {
 }
 
 impl<G, T, M, K> Engine<G, T, M, K> {
-    /// Of stores that go together: the map has each entry of the log. Behind a step the log may hold so many entries at
+    /// Of stores that go together: the map has each entry of the log, and the state machine runs. Behind a step the log may hold so many entries at
     /// most.
     pub fn new<D: Disk>(
         alloc: Global,
@@ -62,6 +62,7 @@ impl<G, T, M, K> Engine<G, T, M, K> {
         requires state_ready { (M.shown state).ready }
         requires caught_up { IsCaughtUp (G.shown log).value (M.map state) }
         requires goes_with { GoesWith (K.view core).role (M.settings state).leased running }
+        requires runs { (M.settings state).running ≡ true }
         ensures kv { (⟦<Engine<G, T, M, K> as Stepper<D>>⟧.seen result).kv ≡ kv_of (T.shown meta).value (M.map state) running }
         ensures log { (⟦<Engine<G, T, M, K> as Stepper<D>>⟧.seen result).log ≡ (G.shown log).value }
         ensures state { result.state ≡ state }
@@ -240,7 +241,7 @@ impl<D: Disk, G: LogStore<D>, T: MetaStore<D>, M: StateMachine<D>, K: Core<D>> S
       most = e.most;
       weight = (G.shown e.log).weight + (T.shown e.meta).weight + (M.shown e.state).weight;
       short = M.short e.state;
-      ready = (e.failed ≡ false) × IsReady (G.shown e.log).ready (T.shown e.meta).ready (M.shown e.state).ready (G.shown e.log).value (M.map e.state) (K.view e.core).role (M.settings e.state).leased e.running;
+      ready = (e.failed ≡ false) × IsReady (G.shown e.log).ready (T.shown e.meta).ready (M.shown e.state).ready (G.shown e.log).value (M.map e.state) (K.view e.core).role (M.settings e.state) e.running;
       failed = HasFailed e.failed (G.shown e.log).ready (T.shown e.meta).ready (M.shown e.state).ready;
       rests = λ content. AllRest ((G.shown e.log).rests content) ((T.shown e.meta).rests content) (AtRest (M.shown e.state) (M.map e.state) content);
     } };

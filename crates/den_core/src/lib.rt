@@ -18,10 +18,11 @@
 //!    moment to the images at that moment. `early_is_refused` says that a server that sends first would not meet it.
 //!    What was sent is a front of what the turns answer, at every exit: `prefix` of `serve`.
 //! 5. The frames are those of the input, however it is cut: `found` of `FrameReader::next`.
-//! 6. Behind each step of one that leads the log holds no more entries than the engine was told: `LogIsShort` in
+//! 6. Behind the opening and behind each step the log holds no more entries than the engine was told: `LogIsShort` in
 //!    specs/Making.antt. `trim` purges it up to the map's mark where its indices run over more, and only there (`trimmed`
-//!    in specs/Trimmed.antt); that moves nothing that the files stand for. At the end of a run the log that the files give
-//!    is as short: `GivesShortLog`. One that follows logs nothing, and leaves its log as long as it was.
+//!    in specs/Trimmed.antt); that moves nothing that the files stand for. One that does not lead logs nothing: its log
+//!    is purged as it is opened, by `trim_opened`, up to the log's own last entry (`opened_log` there). At the end of a
+//!    run the log that the files give is as short: `GivesShortLog`.
 //! 7. A full disk is told the room that one slot would need for a payload that the refused step writes: `IsFullBy` and
 //!    `IsStepTooShort` in specs/Full.antt, with the sizes of what each step writes in specs/PayloadSizes.antt.
 //! 8. Behind a cleanup that took keys away a refusal leaves an engine that has failed; behind one that took none it leaves

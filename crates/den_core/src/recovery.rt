@@ -2,16 +2,19 @@
 ghost use Rattle.std.specs.Prelude.{◌≡◌, ◌==◌, ◌&&◌, ◌||◌, not, ◌^◌, ◌-◌, ◌+◌, IsTrue, [], Option, Some, None, OnOk, IfOk, IfErr, IsSome, IfNone, ◌<◌, ◌≤◌, true, false};
 ghost use Rattle.den_codec.specs.declared.error.Error.TheVariants.{OutOfMemory};
 ghost use Rattle.den_core.specs.Full.{IsFullBy, IsSlotTooShort};
-ghost use Rattle.den_core.specs.PayloadSizes.{chunk_sizes};
+ghost use Rattle.den_core.specs.Making.{LogIsShort};
+ghost use Rattle.den_core.specs.PayloadSizes.{chunk_sizes, opened_sizes};
 ghost use Rattle.den_disk.specs.declared.place.Family.TheVariants.{Snapshot as snapshot_family, State as state_family};
 ghost use Rattle.den_disk.specs.Families.{OldOrNew, SparesImages, SparesOthers};
 ghost use Rattle.den_disk.specs.Goes.{Rose, DiskGoesOn};
 ghost use Rattle.den_model.specs.Crash.{Survives};
+ghost use Rattle.den_model.specs.Grown.{IsPurgedUpTo};
 ghost use Rattle.den_model.specs.Image.{durable, gapless_from, term_of};
 ghost use Rattle.den_model.specs.Kv.{Durable};
 ghost use Rattle.den_model.specs.Log.{above, floor, last_of};
 ghost use Rattle.den_model.specs.MapState.{map_applied_all};
 ghost use Rattle.den_model.specs.Sizes.{entries_size, store_rise};
+ghost use Rattle.den_model.specs.Step.{is_leader};
 ghost use Rattle.den_map.specs.Leases.{asks_lease, has_expiry, lacks_lease};
 ghost use Rattle.den_map.specs.Order.{out_of_order};
 ghost use Rattle.den_journal.specs.Causes.{IsRefusal};
@@ -19,10 +22,13 @@ ghost use Rattle.den_core.specs.Opening.{agrees, opening_refusal, refusal_by, Is
 ghost use Rattle.den_core.specs.Cores.{running_under};
 ghost use Rattle.den_core.specs.Parts.{running_seen, GoesWith, AllRest};
 ghost use Rattle.den_core.specs.Spared.{SparesFamily};
+ghost use Rattle.den_core.specs.Trimmed.{opened_log};
+ghost use Rattle.den_core.specs.Weights.{trim_rise};
 ghost use Rattle.den_state.specs.Machine.{AtRest};
 ghost use Rattle.den_watch.specs.Registry.{nobody};
 
 use crate::applying::apply_at_rest;
+use crate::commits::trim_opened;
 use crate::nodes::copy_nodes;
 use crate::terms::current_term;
 use crate::{Core, Engine, Run, Stepper};
@@ -237,10 +243,58 @@ fn catch_up<D: Disk, G: LogStore<D>, T: MetaStore<D>, M: StateMachine<D>, K: Cor
     Ok(Engine::new::<D>(alloc, log, meta, state, core, running, most))
 }
 
-/// Brings stores together as they were opened: the log's entries above the map's mark are applied, which moves nothing
-/// that the files stand for. A lease is configured where the state machine has one. Where log and map disagree; where none
-/// is configured and a key has an expiry, or an entry to apply a time to live; and where no term or index is left, it
-/// refuses, in this order, with nothing written. The state machine runs then.
+/// Brings stores together, the log's entries above the map's mark being these, and purges the log up to its own last
+/// entry where it is too long and the core does not lead. That moves nothing that the files stand for. The state
+/// machine runs then.
+fn bring_together<D: Disk, G: LogStore<D>, T: MetaStore<D>, M: StateMachine<D>, K: Core<D>>(
+    alloc: Global,
+    disk: &mut D,
+    log: G,
+    meta: T,
+    state: M,
+    core: K,
+    running: Run,
+    most: u64,
+    entries: &[Entry],
+) -> Result<Engine<G, T, M, K>, Error>
+    requires log_ready { (G.shown log).ready }
+    requires meta_ready { (T.shown meta).ready }
+    requires state_ready { (M.shown state).ready }
+    requires rests { IsTrue (D.kind disk.old).tells → AllRest ((G.shown log).rests (D.content disk.old)) ((T.shown meta).rests (D.content disk.old)) (AtRest (M.shown state) (M.map state) (D.content disk.old)) }
+    requires goes_with { GoesWith (K.view core).role (M.settings state).leased running }
+    requires left { IsLeft (G.shown log).value (M.map state) entries.now }
+    requires leased { lacks_lease (M.settings state).leased entries.now ≡ false }
+    ensures disk { DiskGoesOn D.kind D.moment D.images D.faults disk.old disk.new }
+    ensures snapshot { IsTrue (D.kind disk.old).tells → SparesFamily snapshot_family D.content D.moment D.images disk.old disk.new }
+    ensures survives { (kept : Durable) → IsTrue (D.kind disk.old).tells → ⟦<Engine<G, T, M, K> as Stepper<D>>⟧.says.told → durable (G.shown log).value (T.shown meta).value (M.map state) ≡ Some kept
+        → Survives ⟦<Engine<G, T, M, K> as Stepper<D>>⟧.says.holds (D.images disk.new) (D.moment disk.old) (D.moment disk.new) []
+        (record { durable = kept; running = running_seen running }) [] }
+    ensures opened { IfOk result (λ engine. durable (G.shown log).value (T.shown meta).value (M.map state) ≡ Some (⟦<Engine<G, T, M, K> as Stepper<D>>⟧.seen engine).kv.durable) }
+    ensures started { IfOk result (λ engine. (M.settings engine.state).running ≡ true) }
+    ensures running { IfOk result (λ engine. (⟦<Engine<G, T, M, K> as Stepper<D>>⟧.seen engine).kv.running ≡ running_seen running) }
+    ensures log { IfOk result (λ engine. (⟦<Engine<G, T, M, K> as Stepper<D>>⟧.seen engine).log ≡ opened_log (K.view core).role most (G.shown log).value) }
+    ensures purged { IfOk result (λ engine. IsPurgedUpTo (⟦<Engine<G, T, M, K> as Stepper<D>>⟧.seen engine).kv.durable.last_index (G.shown log).value (⟦<Engine<G, T, M, K> as Stepper<D>>⟧.seen engine).log) }
+    ensures short { IfOk result (λ engine. is_leader (K.view core).role ≡ false → LogIsShort (⟦<Engine<G, T, M, K> as Stepper<D>>⟧.seen engine)) }
+    ensures waits { IfOk result (λ engine. (⟦<Engine<G, T, M, K> as Stepper<D>>⟧.seen engine).waits ≡ running.registry) }
+    ensures most { IfOk result (λ engine. (⟦<Engine<G, T, M, K> as Stepper<D>>⟧.seen engine).most ≡ most) }
+    ensures ready { IfOk result (λ engine. (⟦<Engine<G, T, M, K> as Stepper<D>>⟧.seen engine).ready) }
+    ensures rests { IfOk result (λ engine. IsTrue (D.kind disk.old).tells → (⟦<Engine<G, T, M, K> as Stepper<D>>⟧.seen engine).rests (D.content disk.new)) }
+    ensures weight { IfOk result (λ engine. (⟦<Engine<G, T, M, K> as Stepper<D>>⟧.seen engine).weight ≤ (G.shown log).weight + (T.shown meta).weight + (M.shown state).weight + store_rise (entries_size entries.now) + trim_rise) }
+    ensures refused { IfErr result (λ e. IsRefusal (Rose (D.faults disk.old) (D.faults disk.new)) (D.kind disk.old).limit e) }
+    ensures full { IfErr result (IsFullBy (IsTrue (D.kind disk.old).tells × ⟦<Engine<G, T, M, K> as Stepper<D>>⟧.says.told)
+        (λ needed. IsSlotTooShort (opened_sizes (K.view core).role most (G.shown log).value (M.map state) entries.now) ((G.shown log).weight + (T.shown meta).weight + (M.shown state).weight + store_rise (entries_size entries.now) + trim_rise) needed (D.content disk.new).reading)
+        (D.kind disk.old).limit ((G.shown log).weight + (T.shown meta).weight + (M.shown state).weight + store_rise (entries_size entries.now) + trim_rise)) }
+{
+    let mut engine = catch_up(alloc, disk, log, meta, state, core, running, most, entries)?;
+    trim_opened(&mut engine, disk)?;
+    Ok(engine)
+}
+
+/// Brings stores together as they were opened: the log's entries above the map's mark are applied, and where the core
+/// does not lead and the log is too long it is purged up to its last entry, which moves nothing that the files stand
+/// for. A lease is configured where the state machine has one. Where log and map disagree; where none is configured
+/// and a key has an expiry, or an entry to apply a time to live; and where no term or index is left, it refuses, in
+/// this order, with nothing written. The state machine runs then.
 pub fn recover<D: Disk, G: LogStore<D>, T: MetaStore<D>, M: StateMachine<D>, K: Core<D>>(
     alloc: Global,
     disk: &mut D,
@@ -262,7 +316,9 @@ pub fn recover<D: Disk, G: LogStore<D>, T: MetaStore<D>, M: StateMachine<D>, K: 
     ensures opened { IfOk result (λ engine. durable (G.shown log).value (T.shown meta).value (M.map state) ≡ Some (⟦<Engine<G, T, M, K> as Stepper<D>>⟧.seen engine).kv.durable) }
     ensures started { IfOk result (λ engine. (M.settings engine.state).running ≡ true) }
     ensures running { IfOk result (λ engine. (⟦<Engine<G, T, M, K> as Stepper<D>>⟧.seen engine).kv.running ≡ running_under config.now (K.view core) (M.settings state).leased) }
-    ensures log { IfOk result (λ engine. (⟦<Engine<G, T, M, K> as Stepper<D>>⟧.seen engine).log ≡ (G.shown log).value) }
+    ensures log { IfOk result (λ engine. (⟦<Engine<G, T, M, K> as Stepper<D>>⟧.seen engine).log ≡ opened_log (K.view core).role config.now.raft.max_log_entries (G.shown log).value) }
+    ensures purged { IfOk result (λ engine. IsPurgedUpTo (⟦<Engine<G, T, M, K> as Stepper<D>>⟧.seen engine).kv.durable.last_index (G.shown log).value (⟦<Engine<G, T, M, K> as Stepper<D>>⟧.seen engine).log) }
+    ensures short { IfOk result (λ engine. is_leader (K.view core).role ≡ false → LogIsShort (⟦<Engine<G, T, M, K> as Stepper<D>>⟧.seen engine)) }
     ensures waits { IfOk result (λ engine. (⟦<Engine<G, T, M, K> as Stepper<D>>⟧.seen engine).waits ≡ nobody config.now.raft.watch.watcher_buffer_size config.now.raft.watch.max_watcher_count) }
     ensures most { IfOk result (λ engine. (⟦<Engine<G, T, M, K> as Stepper<D>>⟧.seen engine).most ≡ config.now.raft.max_log_entries) }
     ensures ready { IfOk result (λ engine. (⟦<Engine<G, T, M, K> as Stepper<D>>⟧.seen engine).ready) }
@@ -270,14 +326,14 @@ pub fn recover<D: Disk, G: LogStore<D>, T: MetaStore<D>, M: StateMachine<D>, K: 
     ensures term { IfOk result (λ engine. (⟦<Engine<G, T, M, K> as Stepper<D>>⟧.seen engine).kv.durable.term < 2 ^ 64 - 1) }
     ensures index { IfOk result (λ engine. (⟦<Engine<G, T, M, K> as Stepper<D>>⟧.seen engine).kv.durable.last_index < 2 ^ 64 - 1) }
     ensures weight { IfOk result (λ engine. (⟦<Engine<G, T, M, K> as Stepper<D>>⟧.seen engine).weight
-        ≤ (G.shown log).weight + (T.shown meta).weight + (M.shown state).weight + store_rise (entries_size (above (M.map state).mark.index (G.shown log).value.entries))) }
+        ≤ (G.shown log).weight + (T.shown meta).weight + (M.shown state).weight + store_rise (entries_size (above (M.map state).mark.index (G.shown log).value.entries)) + trim_rise) }
     ensures unrefused { OnOk result (opening_refusal (M.settings state).leased (G.place log) (G.shown log).value (T.shown meta).value (M.map state) ≡ None) }
     ensures refused { IfErr result (λ e. IsOpeningFailure (Rose (D.faults disk.old) (D.faults disk.new)) (D.kind disk.old).limit
         (opening_refusal (M.settings state).leased (G.place log) (G.shown log).value (T.shown meta).value (M.map state)) e) }
     ensures full { IfErr result (IsFullBy (IsTrue (D.kind disk.old).tells × ⟦<Engine<G, T, M, K> as Stepper<D>>⟧.says.told)
-        (λ needed. IsSlotTooShort (chunk_sizes (M.map state) (above (M.map state).mark.index (G.shown log).value.entries))
-        ((G.shown log).weight + (T.shown meta).weight + (M.shown state).weight + store_rise (entries_size (above (M.map state).mark.index (G.shown log).value.entries))) needed (D.content disk.new).reading)
-        (D.kind disk.old).limit ((G.shown log).weight + (T.shown meta).weight + (M.shown state).weight + store_rise (entries_size (above (M.map state).mark.index (G.shown log).value.entries)))) }
+        (λ needed. IsSlotTooShort (opened_sizes (K.view core).role config.now.raft.max_log_entries (G.shown log).value (M.map state) (above (M.map state).mark.index (G.shown log).value.entries))
+        ((G.shown log).weight + (T.shown meta).weight + (M.shown state).weight + store_rise (entries_size (above (M.map state).mark.index (G.shown log).value.entries)) + trim_rise) needed (D.content disk.new).reading)
+        (D.kind disk.old).limit ((G.shown log).weight + (T.shown meta).weight + (M.shown state).weight + store_rise (entries_size (above (M.map state).mark.index (G.shown log).value.entries)) + trim_rise)) }
     ensures untouched { IsSome (opening_refusal (M.settings state).leased (G.place log) (G.shown log).value (T.shown meta).value (M.map state)) → disk.new ≡ disk.old }
 {
     let mark = state.last_applied().index;
@@ -289,5 +345,5 @@ pub fn recover<D: Disk, G: LogStore<D>, T: MetaStore<D>, M: StateMachine<D>, K: 
     }
     let running = running_under::<D, K>(alloc, config, &core, state.has_lease())?;
     let most = config.raft.max_log_entries;
-    catch_up(alloc, disk, log, meta, state, core, running, most, entries)
+    bring_together(alloc, disk, log, meta, state, core, running, most, entries)
 }

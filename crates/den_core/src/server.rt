@@ -1,14 +1,14 @@
 //! The loop that serves frames: each is a step, and what the step answers is sent behind it.
-ghost use Rattle.std.specs.Prelude.{◌≡◌, ◌<◌, ◌≤◌, ◌^◌, ◌+◌, ◌-◌, ◌++◌, ℕ, List, drop, IsTrue, OnOk, IfErr, length, true};
+ghost use Rattle.std.specs.Prelude.{◌≡◌, ◌⊎◌, ◌<◌, ◌≤◌, ◌^◌, ◌+◌, ◌-◌, ◌++◌, ℕ, List, drop, IsTrue, OnOk, IfErr, length, true};
 ghost use Rattle.den_disk.specs.Goes.{Rose, IsPrefix, stamped, added, LinkGoesOn, ClockGoesOn};
 ghost use Rattle.den_model.specs.Crash.{Survives, IsWhole, IsDone, IsAnswered, IsServed, Tells, bytes_of};
 ghost use Rattle.den_model.specs.Frames.{framed, frames};
 ghost use Rattle.den_model.specs.Plan.{output, turn, turns, plan};
 ghost use Rattle.den_model.specs.Step.{leads};
-ghost use Rattle.den_core.specs.Answers.{frames_of};
+ghost use Rattle.den_core.specs.Answers.{frames_of, SendsFirst};
 ghost use Rattle.den_core.specs.Early.{EarlyIsRefused};
 ghost use Rattle.den_core.specs.Full.{IsBegun, IsReached};
-ghost use Rattle.den_core.specs.Making.{CanGoOn, GivesShortLog, Serves};
+ghost use Rattle.den_core.specs.Making.{CanGoOn, GivesShortLog, LogIsShort, Serves};
 ghost use Rattle.den_core.specs.Refusals.{IsLinkRefusal};
 ghost use Rattle.den_core.specs.Weights.{frame_rise, run_weight, served_weight};
 
@@ -16,6 +16,9 @@ use crate::{FrameReader, StepOut, Stepper};
 use den_codec::{Error, Frame, Word};
 use den_disk::{Clock, Disk, Link};
 use std::alloc::{AllocError, Global};
+
+/// With so many bytes in it the buffer is sent, before more is put there.
+const ENOUGH: usize = 1 << 20;
 
 /// Writes the length of what stands behind the first eight bytes into those.
 fn set_length(frame: &mut [u8])
@@ -26,43 +29,43 @@ fn set_length(frame: &mut [u8])
     frame[..8].copy_from_slice(&size.to_be_bytes());
 }
 
-/// Makes the buffer the frame of a value's word.
-fn put_frame<W: Word>(value: &W, frame: &mut Vec<u8>) -> Result<(), AllocError>
-    ensures { OnOk result (frame.new.items ≡ framed (W.word value.now)) }
+/// Puts the frame of a value's word behind what the buffer holds.
+fn put_frame<W: Word>(value: &W, buffer: &mut Vec<u8>) -> Result<(), AllocError>
+    ensures { OnOk result (buffer.new.items ≡ buffer.old.items ++ framed (W.word value.now)) }
 {
-    frame.clear();
-    frame.extend_from_slice(&[0; 8])?;
-    value.put(frame)?;
-    set_length(frame);
+    let at = buffer.len();
+    buffer.extend_from_slice(&[0; 8])?;
+    value.put(buffer)?;
+    set_length(&mut buffer[at..]);
     Ok(())
 }
 
-/// Sends the frame of a value's word, which is made in the buffer first.
-fn send_frame<D: Disk, L: Link, W: Word>(
-    link: &mut L,
-    disk: &D,
-    value: &W,
-    frame: &mut Vec<u8>,
-) -> Result<(), Error>
+/// Sends what the buffer holds, and empties it, where that is enough to be sent.
+fn send_enough<D: Disk, L: Link>(link: &mut L, disk: &D, buffer: &mut Vec<u8>) -> Result<(), Error>
+    requires { 0 < length buffer.old.items }
     ensures on { LinkGoesOn L.tells L.sent L.budget L.taken L.faults link.old link.new }
     ensures left { IsTrue (L.tells link.old) → L.left link.new ≡ L.left link.old }
     ensures taken { L.taken link.new ≡ L.taken link.old }
-    ensures all { OnOk result (IsTrue (L.tells link.old) → L.sent link.new ≡ L.sent link.old ++ stamped (framed (W.word value.now)) (D.moment disk.now)) }
-    ensures front { IsTrue (L.tells link.old) → (front : List ℕ) × IsPrefix front (framed (W.word value.now))
+    ensures moved { OnOk result (IsTrue (L.tells link.old)
+        → SendsFirst buffer.old.items buffer.new.items (L.sent link.old) (L.sent link.new) (D.moment disk.now)) }
+    ensures front { IsTrue (L.tells link.old) → (front : List ℕ) × IsPrefix front buffer.old.items
         × (L.sent link.new ≡ L.sent link.old ++ stamped front (D.moment disk.now)) }
     ensures refused { IfErr result (λ e. IsLinkRefusal (Rose (L.faults link.old) (L.faults link.new)) e) }
 {
-    put_frame(value, frame)?;
-    link.send(frame, disk)?;
+    if buffer.len() < ENOUGH {
+        return Ok(());
+    }
+    link.send(buffer, disk)?;
+    buffer.clear();
     Ok(())
 }
 
-/// Sends a step's reply, and then each of its events.
+/// Sends a step's reply and behind it each of its events, at once where they are not many bytes.
 fn send_all<D: Disk, L: Link>(
     link: &mut L,
     disk: &D,
     out: &StepOut,
-    frame: &mut Vec<u8>,
+    buffer: &mut Vec<u8>,
 ) -> Result<(), Error>
     ensures on { LinkGoesOn L.tells L.sent L.budget L.taken L.faults link.old link.new }
     ensures left { IsTrue (L.tells link.old) → L.left link.new ≡ L.left link.old }
@@ -72,11 +75,13 @@ fn send_all<D: Disk, L: Link>(
         × (L.sent link.new ≡ L.sent link.old ++ stamped front (D.moment disk.now)) }
     ensures refused { IfErr result (λ e. IsLinkRefusal (Rose (L.faults link.old) (L.faults link.new)) e) }
 {
-    send_frame(link, disk, &out.reply, frame)?;
+    buffer.clear();
+    put_frame(&out.reply, buffer)?;
     for event in out.events.as_slice() {
-        send_frame(link, disk, event, frame)?;
+        send_enough(link, disk, buffer)?;
+        put_frame(event, buffer)?;
     }
-    Ok(())
+    Ok(link.send(buffer, disk)?)
 }
 
 /// Makes a frame's steps, and sends what they answer, in this order.
@@ -185,8 +190,8 @@ pub fn run_from<D: Disk, L: Link, C: Clock, S: Stepper<D>>(
         IsServed S.says.holds S.says.logs (D.images disk.new) (D.moment disk.new) (L.left link.new) (length readings) (length (frames limit (L.left link.old)))
         (added (L.sent link.old) (L.sent link.new)) (S.seen stepper.old).kv (S.seen stepper.old).log (plan (S.seen stepper.old).kv (frames limit (L.left link.old)) readings)) }
 
-    // The log that the files give then is short, where it leads.
-    ensures short { OnOk result (leads (S.seen stepper.old).kv ≡ true → IsTrue (D.kind disk.old).tells → S.says.told
+    // The log that the files give then is short, where it leads or its log was short.
+    ensures short { OnOk result ((leads (S.seen stepper.old).kv ≡ true) ⊎ LogIsShort (S.seen stepper.old) → IsTrue (D.kind disk.old).tells → S.says.told
         → GivesShortLog S.says.logs (D.images disk.new) (D.moment disk.new) (S.seen stepper.old).most) }
 
     // Few records follow the last checkpoint of the state machine then.

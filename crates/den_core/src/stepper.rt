@@ -29,7 +29,8 @@ pub trait Stepper<D: Disk>: Drop {
     ghost says: { Says };
 
     /// Makes the opening's steps. The log of one that leads is short then: it is purged up to the mark only where its indices
-    /// run over too many. What was short stays so. Where memory is wanting behind a write, the term is raised, or expired keys are gone.
+    /// run over too many. What was short stays so, whether it leads or not. Where memory is wanting behind a write, the
+    /// term is raised, or expired keys are gone.
     fn open_at(&mut self, disk: &mut D, time: u64) -> Result<(), Error>
         requires stands { CanGoOn D.Disk (seen self.old) disk.old }
         requires time { 1 ≤ time }
@@ -41,6 +42,7 @@ pub trait Stepper<D: Disk>: Drop {
         ensures log { OnOk result ((seen self.new).log
             ≡ logged_after (seen self.old).most (mark_of (seen self.new).kv.durable) (seen self.old).log (logged (seen self.old).kv (opening (seen self.old).kv time))) }
         ensures short { OnOk result (leads (seen self.old).kv ≡ true → LogIsShort (seen self.new)) }
+        ensures short_kept { OnOk result (LogIsShort (seen self.old) → LogIsShort (seen self.new)) }
         ensures state_short { OnOk result (leads (seen self.old).kv ≡ true → (seen self.new).short) }
         ensures state_kept { OnOk result ((seen self.old).short → (seen self.new).short) }
         ensures waits { OnOk result ((seen self.new).waits ≡ (seen self.old).waits) };

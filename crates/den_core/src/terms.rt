@@ -33,7 +33,7 @@ fn raise<D: Disk, G: LogStore<D>, T: MetaStore<D>, M: StateMachine<D>, K: Core<D
     disk: &mut D,
 ) -> Result<(), Error>
     requires ready { IsReady (G.shown engine.old.log).ready (T.shown engine.old.meta).ready (M.shown engine.old.state).ready
-        (G.shown engine.old.log).value (M.map engine.old.state) (K.view engine.old.core).role (M.settings engine.old.state).leased engine.old.running }
+        (G.shown engine.old.log).value (M.map engine.old.state) (K.view engine.old.core).role (M.settings engine.old.state) engine.old.running }
     requires rests { IsTrue (D.kind disk.old).tells → (⟦<Engine<G, T, M, K> as Stepper<D>>⟧.seen engine.old).rests (D.content disk.old) }
     requires room { term_of (T.shown engine.old.meta).value < 2 ^ 64 - 1 }
     ensures makes { ChangesStores D.Disk (⟦<Engine<G, T, M, K> as Stepper<D>>⟧.seen engine.old) (⟦<Engine<G, T, M, K> as Stepper<D>>⟧.seen engine.new) disk.old disk.new ⟦<Engine<G, T, M, K> as Stepper<D>>⟧.says
@@ -45,7 +45,7 @@ fn raise<D: Disk, G: LogStore<D>, T: MetaStore<D>, M: StateMachine<D>, K: Core<D
     ensures running { engine.new.running ≡ engine.old.running }
     ensures core { KeepsPlace (K.view engine.old.core) (K.view engine.new.core) }
     ensures ready { OnOk result (IsReady (G.shown engine.new.log).ready (T.shown engine.new.meta).ready (M.shown engine.new.state).ready
-        (G.shown engine.new.log).value (M.map engine.new.state) (K.view engine.new.core).role (M.settings engine.new.state).leased engine.new.running) }
+        (G.shown engine.new.log).value (M.map engine.new.state) (K.view engine.new.core).role (M.settings engine.new.state) engine.new.running) }
 {
     engine.core.raise(disk, &mut engine.meta)?;
     Ok(())

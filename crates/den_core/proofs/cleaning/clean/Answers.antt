@@ -82,6 +82,7 @@ returns-in_err-removed-clause-makes g c =
                             state = same.ready;
                             caught_up = subst (λ m. IsCaughtUp l m) (sym same_map) was.1.caught_up;
                             goes_with = subst (λ (x : Settings). GoesWith (g.K.Core.view engine.core).role x.leased engine.running) (sym call.settings) was.1.goes_with;
+                            runs = ap (λ (x : Settings). x.running) call.settings ∙ was.1.runs;
                           },
                         );
                         stays_at_rest = λ told rests. record {
@@ -139,6 +140,7 @@ returns-clause-makes g c =
             caught_up = cleaned_caught_up l s _ time ready.caught_up cleaned;
             goes_with = subst (λ (x : Settings). GoesWith (g.K.Core.view engine.core).role x.leased (record engine.running { cleaned = Some time })) (sym call.settings)
                 (record { role_is = ready.goes_with.role_is; lease_is = ready.goes_with.lease_is });
+            runs = ap (λ (x : Settings). x.running) call.settings ∙ ready.runs;
           },
         );
         rests = λ told.

@@ -124,6 +124,7 @@ returns-in_err-commit-clause-makes g c =
                   state = ready.1.state;
                   caught_up = subst (λ l. IsCaughtUp l (g.M.StateMachine.map engine.state)) (sym same.same_value) ready.1.caught_up;
                   goes_with = subst (λ (v : CoreView). GoesWith v.role (g.M.StateMachine.settings engine.state).leased engine.running) (sym c.commit.ensures.same) ready.1.goes_with;
+                  runs = ready.1.runs;
                 },
               );
               stays_at_rest = λ told rests. record {
@@ -312,5 +313,6 @@ returns-clause-ready g c =
         caught_up = caught_up_now l s c.of-entry.result _ _ c.requires.ready.caught_up (next_index s _ _ _ c.args.command c.of-entry.result c.of-entry.ensures (ap (λ i. i.index) c.last_applied.ensures)) c.in_ok-commit.ensures.writes.done.value (copied _ _ _ _ c.in_ok-results.ensures.applied c.in_ok-copy.ensures);
         goes_with = subst (λ (v : CoreView). GoesWith v.role (g.M.StateMachine.settings c.apply_at_rest.new.state).leased engine.running) (sym c.commit.ensures.same)
             (subst (λ (x : Settings). GoesWith (g.K.Core.view engine.core).role x.leased engine.running) (sym c.apply_at_rest.ensures.settings) c.requires.ready.goes_with);
+        runs = ap (λ (x : Settings). x.running) c.apply_at_rest.ensures.settings ∙ c.requires.ready.runs;
       },
     )

@@ -82,7 +82,7 @@ returns-in_ok-reply-in-Watch-clause-makes g c =
     _ _ _ (c.in_ok-command.ensures.asked kv.durable.term c.args.time ∙ ap (outcome_of kv c.args.time) c.in-Watch.is ∙ c.in_ok-reply-in-Watch.ensures.watched kv.durable)
     refl refl refl refl refl refl
     (subst (λ (r : Run). (engine.failed ≡ false) × IsReady (g.G.LogStore.shown engine.log).ready (g.T.MetaStore.shown engine.meta).ready (g.M.StateMachine.shown engine.state).ready
-    (g.G.LogStore.shown engine.log).value (g.M.StateMachine.map engine.state) (g.K.Core.view engine.core).role (g.M.StateMachine.settings engine.state).leased r) (sym c.register.ensures.aside)
+    (g.G.LogStore.shown engine.log).value (g.M.StateMachine.map engine.state) (g.K.Core.view engine.core).role (g.M.StateMachine.settings engine.state) r) (sym c.register.ensures.aside)
     (stands.ready.0, ready_aside _ _ _ _ _ _ _ engine.running (record engine.running { registry = c.register.new.run.registry }) refl refl stands.ready.1))
     stands.rests
 
@@ -100,7 +100,7 @@ returns-in_err-reply-in-Watch-clause-makes g c =
     (λ files at. rest_hold g.met.M.StateMachine.lies held.2 engine.state (g.M.StateMachine.map engine.state) (g.D.Disk.content disk) files stands.ready.1.state (stands.rests told).state at))
     _ (ap (kv_of (g.T.MetaStore.shown engine.meta).value (g.M.StateMachine.map engine.state)) c.in_err-reply-in-Watch.ensures.refused.1) (ap (λ (r : Run). r.registry) c.in_err-reply-in-Watch.ensures.refused.1) refl refl refl (λ short. short)
     (subst (λ (r : Run). (engine.failed ≡ false) × IsReady (g.G.LogStore.shown engine.log).ready (g.T.MetaStore.shown engine.meta).ready (g.M.StateMachine.shown engine.state).ready
-    (g.G.LogStore.shown engine.log).value (g.M.StateMachine.map engine.state) (g.K.Core.view engine.core).role (g.M.StateMachine.settings engine.state).leased r) (sym c.in_err-reply-in-Watch.ensures.refused.1))
+    (g.G.LogStore.shown engine.log).value (g.M.StateMachine.map engine.state) (g.K.Core.view engine.core).role (g.M.StateMachine.settings engine.state) r) (sym c.in_err-reply-in-Watch.ensures.refused.1))
     (λ told rests. rests)
     c.in_err-reply-in-Watch.field-0.0 _ c.from_residual-in_err-reply-in-Watch.ensures.1 c.in_err-reply-in-Watch.ensures.refused.0
 

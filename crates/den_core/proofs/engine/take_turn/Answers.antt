@@ -52,7 +52,7 @@ returns-in-Err-clause-makes g c =
       weight = ap (λ x. (g.G.LogStore.shown x.log).weight + (g.T.MetaStore.shown x.meta).weight + (g.M.StateMachine.shown x.state).weight) idle.0;
       short = subst (λ x. g.M.StateMachine.short x.state) (sym idle.0);
       ready = λ ready. subst (λ x. (x.failed ≡ false) × IsReady (g.G.LogStore.shown x.log).ready (g.T.MetaStore.shown x.meta).ready (g.M.StateMachine.shown x.state).ready
-          (g.G.LogStore.shown x.log).value (g.M.StateMachine.map x.state) (g.K.Core.view x.core).role (g.M.StateMachine.settings x.state).leased x.running) (sym idle.0)
+          (g.G.LogStore.shown x.log).value (g.M.StateMachine.map x.state) (g.K.Core.view x.core).role (g.M.StateMachine.settings x.state) x.running) (sym idle.0)
           (ready.0, ready_aside _ _ _ _ _ _ _ _ _ (ap (λ (r : Run). r.role) idle.1) (ap (λ (r : Run). r.lease) idle.1) ready.1);
       rests = λ content. subst (λ x. AllRest ((g.G.LogStore.shown x.log).rests content) ((g.T.MetaStore.shown x.meta).rests content)
           (AtRest (g.M.StateMachine.shown x.state) (g.M.StateMachine.map x.state) content)) (sym idle.0);
@@ -64,7 +64,7 @@ returns-in-Err-clause-makes g c =
       weight = ap (λ x. (g.G.LogStore.shown x.log).weight + (g.T.MetaStore.shown x.meta).weight + (g.M.StateMachine.shown x.state).weight) left;
       short = subst (λ x. g.M.StateMachine.short x.state) (sym left);
       ready = λ ready. subst (λ x. (x.failed ≡ false) × IsReady (g.G.LogStore.shown x.log).ready (g.T.MetaStore.shown x.meta).ready (g.M.StateMachine.shown x.state).ready
-          (g.G.LogStore.shown x.log).value (g.M.StateMachine.map x.state) (g.K.Core.view x.core).role (g.M.StateMachine.settings x.state).leased x.running) (sym left)
+          (g.G.LogStore.shown x.log).value (g.M.StateMachine.map x.state) (g.K.Core.view x.core).role (g.M.StateMachine.settings x.state) x.running) (sym left)
           (ready.0, ready_aside _ _ _ _ _ _ _ _ _ (sym (ap (λ (r : Run). r.role) back)) (sym (ap (λ (r : Run). r.lease) back)) ready.1);
       rests = λ content. subst (λ x. AllRest ((g.G.LogStore.shown x.log).rests content) ((g.T.MetaStore.shown x.meta).rests content)
           (AtRest (g.M.StateMachine.shown x.state) (g.M.StateMachine.map x.state) content)) (sym left);

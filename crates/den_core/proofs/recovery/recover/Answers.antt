@@ -40,25 +40,25 @@ pub returns-in-Some-clause-refused : goal.returns-in-Some-clause-refused
 returns-in-Some-clause-refused g c = inl (refused_here _ _ (g.G.LogStore.shown c.args.log).value (g.T.MetaStore.shown c.args.meta).value (g.M.StateMachine.map c.args.state) _ _ _ _
     (ap (λ i. i.index) c.last_applied-mark.ensures) (c.as_slice-entries.ensures ∙ c.in_ok-found.ensures.entries) c.lacks_lease-lacking.ensures c.refusal.ensures.refusal ∙ c.in-Some.is)
 
-pub catch_up-requires-clause-left : goal.catch_up-requires-clause-left
-catch_up-requires-clause-left g c = left_here _ _ (g.G.LogStore.shown c.args.log).value (g.T.MetaStore.shown c.args.meta).value (g.M.StateMachine.map c.args.state) _ _ _ _
+pub bring_together-requires-clause-left : goal.bring_together-requires-clause-left
+bring_together-requires-clause-left g c = left_here _ _ (g.G.LogStore.shown c.args.log).value (g.T.MetaStore.shown c.args.meta).value (g.M.StateMachine.map c.args.state) _ _ _ _
     (ap (λ i. i.index) c.last_applied-mark.ensures) (c.as_slice-entries.ensures ∙ c.in_ok-found.ensures.entries) c.lacks_lease-lacking.ensures c.refusal.ensures.refusal c.in_default.is
 
-pub catch_up-requires-clause-leased : goal.catch_up-requires-clause-leased
-catch_up-requires-clause-leased g c = free_here _ _ (g.G.LogStore.shown c.args.log).value (g.T.MetaStore.shown c.args.meta).value (g.M.StateMachine.map c.args.state) _ _ _ _
+pub bring_together-requires-clause-leased : goal.bring_together-requires-clause-leased
+bring_together-requires-clause-leased g c = free_here _ _ (g.G.LogStore.shown c.args.log).value (g.T.MetaStore.shown c.args.meta).value (g.M.StateMachine.map c.args.state) _ _ _ _
     (ap (λ i. i.index) c.last_applied-mark.ensures) (c.as_slice-entries.ensures ∙ c.in_ok-found.ensures.entries) c.lacks_lease-lacking.ensures c.refusal.ensures.refusal c.in_default.is
 
 pub returns-clause-unrefused : goal.returns-clause-unrefused
 returns-clause-unrefused g c =
     let none = refused_here _ _ (g.G.LogStore.shown c.args.log).value (g.T.MetaStore.shown c.args.meta).value (g.M.StateMachine.map c.args.state) _ _ _ _
     (ap (λ i. i.index) c.last_applied-mark.ensures) (c.as_slice-entries.ensures ∙ c.in_ok-found.ensures.entries) c.lacks_lease-lacking.ensures c.refusal.ensures.refusal ∙ c.in_default.is in
-    on_ok_just c.catch_up.result none
+    on_ok_just c.bring_together.result none
 
 pub returns-clause-refused : goal.returns-clause-refused
 returns-clause-refused g c =
     let none = refused_here _ _ (g.G.LogStore.shown c.args.log).value (g.T.MetaStore.shown c.args.meta).value (g.M.StateMachine.map c.args.state) _ _ _ _
     (ap (λ i. i.index) c.last_applied-mark.ensures) (c.as_slice-entries.ensures ∙ c.in_ok-found.ensures.entries) c.lacks_lease-lacking.ensures c.refusal.ensures.refusal ∙ c.in_default.is in
-    refused_later c.catch_up.result _ _ _ none c.catch_up.ensures.refused
+    refused_later c.bring_together.result _ _ _ none c.bring_together.ensures.refused
 
 pub returns-clause-untouched : goal.returns-clause-untouched
 returns-clause-untouched g c = λ some.
@@ -67,14 +67,14 @@ returns-clause-untouched g c = λ some.
     absurd (none_some _ none some)
 
 pub returns-clause-term : goal.returns-clause-term
-returns-clause-term g c = IfOk-weaker c.catch_up.result _ _ (λ engine is. (room_here (g.G.LogStore.shown c.args.log).value (g.T.MetaStore.shown c.args.meta).value (g.M.StateMachine.map c.args.state) _ _ _
+returns-clause-term g c = IfOk-weaker c.bring_together.result _ _ (λ engine is. (room_here (g.G.LogStore.shown c.args.log).value (g.T.MetaStore.shown c.args.meta).value (g.M.StateMachine.map c.args.state) _ _ _
     (ap (λ i. i.index) c.last_applied-mark.ensures) (left_here _ _ (g.G.LogStore.shown c.args.log).value (g.T.MetaStore.shown c.args.meta).value (g.M.StateMachine.map c.args.state) _ _ _ _
-    (ap (λ i. i.index) c.last_applied-mark.ensures) (c.as_slice-entries.ensures ∙ c.in_ok-found.ensures.entries) c.lacks_lease-lacking.ensures c.refusal.ensures.refusal c.in_default.is) c.in_default.ensures.room is).0) c.catch_up.ensures.opened
+    (ap (λ i. i.index) c.last_applied-mark.ensures) (c.as_slice-entries.ensures ∙ c.in_ok-found.ensures.entries) c.lacks_lease-lacking.ensures c.refusal.ensures.refusal c.in_default.is) c.in_default.ensures.room is).0) c.bring_together.ensures.opened
 
 pub returns-clause-index : goal.returns-clause-index
-returns-clause-index g c = IfOk-weaker c.catch_up.result _ _ (λ engine is. (room_here (g.G.LogStore.shown c.args.log).value (g.T.MetaStore.shown c.args.meta).value (g.M.StateMachine.map c.args.state) _ _ _
+returns-clause-index g c = IfOk-weaker c.bring_together.result _ _ (λ engine is. (room_here (g.G.LogStore.shown c.args.log).value (g.T.MetaStore.shown c.args.meta).value (g.M.StateMachine.map c.args.state) _ _ _
     (ap (λ i. i.index) c.last_applied-mark.ensures) (left_here _ _ (g.G.LogStore.shown c.args.log).value (g.T.MetaStore.shown c.args.meta).value (g.M.StateMachine.map c.args.state) _ _ _ _
-    (ap (λ i. i.index) c.last_applied-mark.ensures) (c.as_slice-entries.ensures ∙ c.in_ok-found.ensures.entries) c.lacks_lease-lacking.ensures c.refusal.ensures.refusal c.in_default.is) c.in_default.ensures.room is).1) c.catch_up.ensures.opened
+    (ap (λ i. i.index) c.last_applied-mark.ensures) (c.as_slice-entries.ensures ∙ c.in_ok-found.ensures.entries) c.lacks_lease-lacking.ensures c.refusal.ensures.refusal c.in_default.is) c.in_default.ensures.room is).1) c.bring_together.ensures.opened
 
 pub returns-in_err-found-clause-snapshot : goal.returns-in_err-found-clause-snapshot
 returns-in_err-found-clause-snapshot g c = λ told. spares_still _ _ _ _ _

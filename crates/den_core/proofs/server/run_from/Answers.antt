@@ -1,11 +1,11 @@
-use Rattle.std.proofs.Common.{IsTrue, IfErr, rules, arith, ap, refl, sym, ◌∙◌, subst}
+use Rattle.std.proofs.Common.{⊎_elim, IsTrue, IfErr, rules, arith, ap, refl, sym, ◌∙◌, subst}
 use Rattle.std.proofs.lemmas.Result.{on_ok_weaker}
 use Rattle.den_disk.specs.Files.{Kind}
 use Rattle.den_model.specs.Crash.{Stands, Tells}
 use Rattle.den_model.specs.Frames.{frames}
 use Rattle.den_core.proofs.GoesOn.{disk_twice, on_ok_three}
 use Rattle.den_core.proofs.Fronts.{none_is_front, front_of_run}
-use Rattle.den_core.proofs.Beginning.{frames_reached, opening_reached, opening_short, opens_only, runs, runs_answered, runs_whole}
+use Rattle.den_core.proofs.Beginning.{frames_reached, opening_reached, opens_only, runs, runs_answered, runs_whole}
 use Rattle.den_core.proofs.Refusing.{not_done}
 use Rattle.den_core.proofs.Weighing.{heavier_all, heavier_out, short_step}
 use Rattle.den_core.specs.Refusals.{IsServeRefusal}
@@ -66,7 +66,7 @@ returns-clause-served g c = on_ok_three c.serve.result (λ done ready rests told
     (λ files at. g.met.S.Stepper.agrees.rests_log says s (g.D.Disk.content disk) files ready (rests here.disk_tells) ((g.met.D.Disk.images_now disk files then).0 at))) c.serve.ensures.done c.serve.ensures.serves.ready c.serve.ensures.serves.rests
 
 pub returns-clause-short : goal.returns-clause-short
-returns-clause-short g c = on_ok_three c.serve.result (λ short ready rests leading told says.
+returns-clause-short g c = on_ok_three c.serve.result (λ short ready rests either told says.
     let disk = c.serve.new.disk in
     let s = c.serve.new.stepper in
     let here : IsTrue (g.D.Disk.kind c.open_at.new.disk).tells = subst (λ (k : Kind). IsTrue k.tells) (sym c.open_at.ensures.makes.goes_on.same) told in
@@ -75,7 +75,7 @@ returns-clause-short g c = on_ok_three c.serve.result (λ short ready rests lead
       each = λ files at. (
         (g.S.Stepper.seen s).log,
         g.met.S.Stepper.agrees.rests_log says s (g.D.Disk.content disk) files ready (rests here) ((g.met.D.Disk.images_now disk files then).0 at),
-        omega (arith, short (c.in_ok-open_at.ensures.short leading), c.serve.ensures.serves.same_most, c.open_at.ensures.makes.same_most),
+        omega (arith, short (⊎_elim c.in_ok-open_at.ensures.short c.in_ok-open_at.ensures.short_kept either), c.serve.ensures.serves.same_most, c.open_at.ensures.makes.same_most),
       );
     }) c.serve.ensures.serves.short c.serve.ensures.serves.ready c.serve.ensures.serves.rests
 
@@ -87,7 +87,7 @@ returns-clause-serves g c =
       goes_on = disk_twice _ _ _ _ _ _ _ c.open_at.ensures.makes.goes_on serves.goes_on;
       snapshot = spares_twice _ _ _ _ _ _ _ _ _ c.open_at.ensures.makes.goes_on serves.goes_on c.open_at.ensures.makes.snapshot serves.snapshot;
       same_most = serves.same_most ∙ c.open_at.ensures.makes.same_most;
-      short = on_ok_weaker c.serve.result (λ short was. short (opening_short (g.S.Stepper.seen c.args.stepper.now).kv _ _ _ _ _ _ c.open_at.ensures.makes.same_most c.in_ok-open_at.ensures.short c.in_ok-open_at.ensures.log was)) serves.short;
+      short = on_ok_weaker c.serve.result (λ short was. short (c.in_ok-open_at.ensures.short_kept was)) serves.short;
       state_short = on_ok_weaker c.serve.result (λ short was. short (c.in_ok-open_at.ensures.state_kept was)) serves.state_short;
       ready = serves.ready;
       rests = on_ok_weaker c.serve.result (λ rests told. rests (subst (λ (k : Kind). IsTrue k.tells) (sym c.open_at.ensures.makes.goes_on.same) told)) serves.rests;

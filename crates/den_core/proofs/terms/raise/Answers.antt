@@ -60,6 +60,7 @@ returns-in_err-raise-clause-makes g c =
                   state = ready.1.state;
                   caught_up = ready.1.caught_up;
                   goes_with = subst (λ role. GoesWith role (g.M.StateMachine.settings engine.state).leased engine.running) (sym c.raise.ensures.same.same_role) ready.1.goes_with;
+                  runs = ready.1.runs;
                 },
               );
               stays_at_rest = λ told rests. record {
@@ -120,4 +121,5 @@ returns-clause-ready g c =
       state = c.requires.ready.state;
       caught_up = c.requires.ready.caught_up;
       goes_with = subst (λ role. GoesWith role (g.M.StateMachine.settings engine.state).leased engine.running) (sym c.raise.ensures.same.same_role) c.requires.ready.goes_with;
+      runs = c.requires.ready.runs;
     }

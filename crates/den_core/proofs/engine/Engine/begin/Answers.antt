@@ -1,5 +1,7 @@
-use Rattle.std.proofs.Common.{IsTrue, arith, ap, refl, sym, subst}
+use Rattle.std.proofs.Common.{IsTrue, arith, ap, refl, sym, ◌∙◌, subst}
 use Rattle.den_disk.specs.Files.{Kind}
+use Rattle.den_model.specs.Kv.{Running}
+use Rattle.den_model.specs.Step.{is_leader}
 use Rattle.den_core.proofs.Begins.{begins, first_short, later_short, opened, start_is}
 use Rattle.den_core.proofs.GoesOn.{clock_read}
 use Rattle.den_core.proofs.Spared.{spares_twice}
@@ -31,7 +33,7 @@ pub returns-in_err-open_at-clause-full : goal.returns-in_err-open_at-clause-full
 returns-in_err-open_at-clause-full g c =
     heavier_out c.from_residual-in_err-open_at.result c.in_err-open_at.field-0.0 _ _ _ _ _ _ _ _ c.from_residual-in_err-open_at.ensures.1
     (λ t. (subst (λ (k : Kind). IsTrue k.tells) (sym c.recover.ensures.disk.same) t.0, t.1))
-    (λ needed t short. later_short _ _ _ _ _ _ _ _ _ _ _ _ _ needed _ _ _ c.in_ok-engine.ensures.opened c.in_ok-engine.ensures.running c.in_ok-engine.ensures.log c.now.ensures.told c.max-time.ensures
+    (λ needed t short. later_short _ _ _ _ _ _ _ _ _ _ _ _ _ needed _ _ _ c.in_ok-engine.ensures.opened c.in_ok-engine.ensures.running c.in_ok-engine.ensures.purged c.now.ensures.told c.max-time.ensures
     c.in_ok-engine.ensures.most (omega (arith, c.in_ok-engine.ensures.weight)) short)
     (ap (λ (k : Kind). k.limit) c.recover.ensures.disk.same) (omega (arith, c.in_ok-engine.ensures.weight)) c.in_err-open_at.ensures.makes.refused.full
 
@@ -52,7 +54,12 @@ returns-clause-survives g c = λ kept told clock_told says is.
 
 pub returns-clause-opened : goal.returns-clause-opened
 returns-clause-opened g c =
-    opened g.D.Disk _ _ _ _ _ _ _ _ _ _ _ _ _ _ _ _ c.recover.ensures.disk c.in_ok-engine.ensures.opened c.in_ok-engine.ensures.running c.in_ok-engine.ensures.log
+    opened g.D.Disk _ _ _ _ _ _ _ _ _ _ _ _ _ _ _ _ c.recover.ensures.disk c.in_ok-engine.ensures.opened c.in_ok-engine.ensures.running c.in_ok-engine.ensures.purged
     c.in_ok-engine.ensures.most (omega (arith, c.in_ok-engine.ensures.weight)) c.now.ensures.told c.max-time.ensures c.open_at.ensures.makes.same_most
-    c.in_ok-open_at.ensures.makes.done c.in_ok-open_at.ensures.short c.in_ok-open_at.ensures.state_short
+    c.in_ok-open_at.ensures.makes.done c.in_ok-open_at.ensures.short
+    (λ follows. c.in_ok-engine.ensures.short (sym (ap (λ (r : Running). is_leader r.setting.role) c.in_ok-engine.ensures.running) ∙ follows))
+    c.in_ok-open_at.ensures.short_kept c.in_ok-open_at.ensures.state_short
     c.in_ok-engine.ensures.waits c.in_ok-open_at.ensures.waits
+
+pub returns-clause-started : goal.returns-clause-started
+returns-clause-started g c = c.in_ok-open_at.ensures.makes.done.ready.1.runs
