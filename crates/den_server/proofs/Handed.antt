@@ -1,18 +1,21 @@
 -- A run over stores as they are handed in: how its opening and its loop go together.
-use Rattle.std.proofs.Common.{◌≡◌, ◌⊎◌, inl, inr, ℕ, ◌≤◌, List, [], Option, Some, None, Result, Ok, Err, OnOk, refl, sym, subst, arith}
+use Rattle.std.proofs.Common.{◌≡◌, ◌⊎◌, inl, inr, ℕ, ◌≤◌, Bool, true, false, List, [], Option, Some, None, Result, Ok, Err, OnOk, refl, sym, subst, arith}
 use Rattle.den_disk.specs.Files.{Files}
 use Rattle.den_disk.specs.Goes.{IsPrefix, added}
 use Rattle.den_codec.specs.declared.error.Error.{Error}
 use Rattle.den_codec.specs.declared.error.Error.TheVariants as error
 use Rattle.den_model.specs.Crash.{IsServed, Survives, bytes_of}
+use Rattle.den_model.specs.Grown.{IsPurgedUpTo}
 use Rattle.den_model.specs.Kv.{Durable, Kv, Running}
 use Rattle.den_model.specs.Log.{Log}
 use Rattle.den_model.specs.Plan.{plan_over}
 use Rattle.den_model.specs.Step.{Step}
 use Rattle.den_journal.specs.Causes.{IsRefusal}
+use Rattle.den_core.specs.Full.{IsReached}
 use Rattle.den_core.specs.Opening.{IsOpeningFailure}
 use Rattle.den_core.specs.Refusals.{IsServeRefusal}
 use Rattle.den_core.specs.Weights.{run_weight}
+use Rattle.den_model.proofs.Grown.{log_twice}
 use Rattle.den_core.proofs.Lists.{added_none}
 use Rattle.den_core.proofs.Stretch.{goes_on}
 use Rattle.den_server.specs.Custom.{IsCustomRefusal}
@@ -48,13 +51,39 @@ module _ (holds : Files → Option Durable) where
       goes_on holds old_images images from mid to [] sent kv kv [] (steps kv) low high past one refl refl
       (subst (λ (k : Kv). Survives holds images mid to sent k (steps k)) same two)
 
-  -- a run from an equal state and an equal log
+  -- a run from an equal state, over a log of which entries were purged
   pub served_over : (logs : Files → Option Log) (images : ℕ → Files → Type 0) (to : ℕ) (left : List ℕ) (readings cut : ℕ) (sent : List (ℕ × ℕ)) (kv other : Kv) (log other_log : Log) (steps : Kv → List Step)
-      → other ≡ kv → other_log ≡ log → IsServed holds logs images to left readings cut sent other other_log (steps other)
+      → other ≡ kv → IsPurgedUpTo other.durable.last_index log other_log → IsServed holds logs images to left readings cut sent other other_log (steps other)
       → IsServed holds logs images to left readings cut sent kv log (steps kv)
-  served_over logs images to left readings cut sent kv other log other_log steps same same_log s =
-      subst (λ (l : Log). IsServed holds logs images to left readings cut sent kv l (steps kv)) same_log
-      (subst (λ (k : Kv). IsServed holds logs images to left readings cut sent k other_log (steps k)) same s)
+  served_over logs images to left readings cut sent kv other log other_log steps same purged s =
+      subst (λ (k : Kv). IsServed holds logs images to left readings cut sent k log (steps k)) same
+      (record {
+        answered = s.answered;
+        end_stands = s.end_stands;
+        log_stands = record {
+          each = λ files at.
+              let given = s.log_stands.each files at in
+              (given.0, given.1, log_twice log other_log given.0 other other [] (steps other) refl purged given.2);
+        };
+      })
+
+-- the step of such a run that was refused
+pub reached_over : (steps : Kv → List Step) (sent : List ℕ) (other first : Kv) (other_log old : Log) (kv : Kv) (log : Log) (next : Step) → other ≡ first → IsPurgedUpTo other.durable.last_index old other_log
+    → IsReached other other_log (steps other) sent kv log next → IsReached first old (steps first) sent kv log next
+reached_over steps sent other first other_log old kv log next same purged reached =
+    subst (λ (k : Kv). IsReached k old (steps k) sent kv log next) same
+    (record {
+      made = reached.made;
+      rest = reached.rest;
+      parts = reached.parts;
+      state = reached.state;
+      left_is = (log_twice old other_log log other other [] reached.made refl purged reached.left_is.0, reached.left_is.1);
+    })
+
+-- a core leads, or what holds where it does not
+pub led_or : (led : Bool) (P : Type 0) → (led ≡ false → P) → (led ≡ true) ⊎ P
+led_or true P following = inl refl
+led_or false P following = inr (following refl)
 
 -- ---- why it ended
 

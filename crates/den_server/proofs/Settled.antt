@@ -27,15 +27,6 @@ image_is_reading c files none image = λ i q. file_is q (c.reading q) (files q) 
 pub no_call : (images : ℕ → Files → Type 0) (t : ℕ) → NoNewImages images images t t
 no_call images t = record { each = λ u files begun ended at. let same : u ≡ t = omega arith in subst (λ v. images v files) same at }
 
-pub none_then : (old mid new : ℕ → Files → Type 0) (from between to : ℕ) → from ≤ between → between ≤ to → ((t : ℕ) (files : Files) → t ≤ between → new t files → mid t files)
-    → NoNewImages old mid from between → NoNewImages mid new between to → NoNewImages old new from to
-none_then old mid new from between to low high past one two = record {
-  each = λ t files begun ended at. ⊎_elim
-      (λ early. one.each t files begun (omega arith) (past t files (omega arith) at))
-      (λ late. one.each between files low (omega arith) (two.each t files late ended at))
-      (cases_lt t between);
-}
-
 -- calls that only read spare each family's files
 pub spares_read : {D : Type 0} (family : Family) (content : D → Content) (moment : D → ℕ) (images : D → ℕ → Files → Type 0) (old new : D) → SparesAll (content old) (content new)
     → NoNewImages (images old) (images new) (moment old) (moment new) → SparesFamily family content moment images old new

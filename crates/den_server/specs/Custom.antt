@@ -31,9 +31,9 @@ use Rattle.den_core.specs.Full.{IsFullBy, IsReached, IsSlotTooShort, IsStepTooSh
 use Rattle.den_core.specs.Making.{GivesShortLog, Says}
 use Rattle.den_core.specs.Opening.{opening_refusal}
 use Rattle.den_core.specs.Parts.{AllRest}
-use Rattle.den_core.specs.PayloadSizes.{chunk_sizes}
+use Rattle.den_core.specs.PayloadSizes.{opened_sizes}
 use Rattle.den_core.specs.Refusals.{IsServeRefusal}
-use Rattle.den_core.specs.Weights.{run_weight}
+use Rattle.den_core.specs.Weights.{run_weight, trim_rise}
 
 -- Log, hard state and map as they are handed in: what is seen of each, the applied map, the number of the log's file, whether
 -- the state machine has a lease, and what the three say of files.
@@ -88,9 +88,9 @@ refusal_of s = opening_refusal s.leased s.place s.log.value s.meta.value s.map
 abbrev pub behind : Stores → List LogEntry
 behind s = above s.map.mark.index s.log.value.entries
 
--- what they weigh, with the entries that the map takes on
+-- what they weigh, with the entries that the map takes on, and a purge of the log
 abbrev pub brought_weight : Stores → ℕ
-brought_weight s = s.log.weight + s.meta.weight + s.state.weight + store_rise (entries_size (behind s))
+brought_weight s = s.log.weight + s.meta.weight + s.state.weight + store_rise (entries_size (behind s)) + trim_rise
 
 -- a refusal of opening is answered, but for want of memory
 pub record IsAnsweredSo {T : Type 0} (refusal : Error) (result : Result T Error) : Type 0 where
@@ -141,9 +141,9 @@ module _ {D L C : Type 0} (disk : Disks D) (link : Links L) (clock : Clocks C) w
     SurvivesAlways = (kept : Durable) → AllTell → s.says.told → Keep s kept
         → Survives s.says.holds (disk.images new) (disk.moment old) (disk.moment new) sent_then (begin kept) (steps_over kept)
 
-    -- where the core leads, each image of the disk gives a log of no more entries than the configuration allows
+    -- whatever the core's role, each image of the disk gives a log of no more entries than the configuration allows
     abbrev pub LeavesShortLog : Type 0
-    LeavesShortLog = is_leader core.role ≡ true → DiskTells disk old → s.says.told → GivesShortLog s.says.logs (disk.images new) (disk.moment new) c.raft.max_log_entries
+    LeavesShortLog = DiskTells disk old → s.says.told → GivesShortLog s.says.logs (disk.images new) (disk.moment new) c.raft.max_log_entries
 
     -- where the core leads, the state machine at the end asks for no checkpoint, with its files as its last call left them
     abbrev pub LeavesShortState : {M : Type 0} (shown : M → Shown MapState) (map : M → MapState) (short : M → Type 0) → Type 0
@@ -153,11 +153,12 @@ module _ {D L C : Type 0} (disk : Disks D) (link : Links L) (clock : Clocks C) w
     abbrev pub heaviest : ℕ
     heaviest = run_weight (brought_weight s) (link.taken to - link.taken from)
 
-    -- The room that one slot would need, in the files as they read at the end. Either for a payload of the entries that opening
-    -- lets the map take on; or for one that a step writes, which is the next of the plan: those before it were made, with
-    -- their entries in the log, and just what they say was sent.
+    -- The room that one slot would need, in the files as they read at the end. Either for a payload of the entries
+    -- that opening lets the map take on, or, where the core does not lead and the log is too long, of the log that it
+    -- purges; or for one that a step writes, which is the next of the plan: those before it were made, with their
+    -- entries in the log, and just what they say was sent.
     abbrev pub IsOneTooShort : (needed : ℕ) → Type 0
-    IsOneTooShort needed = IsSlotTooShort (chunk_sizes s.map (behind s)) heaviest needed (disk.content new).reading
+    IsOneTooShort needed = IsSlotTooShort (opened_sizes core.role c.raft.max_log_entries s.log.value s.map (behind s)) heaviest needed (disk.content new).reading
         ⊎ IsStepTooShort (λ kv log next. (kept : Durable) → AllTell → Keep s kept → IsReached (begin kept) s.log.value (steps_over kept) (bytes_of sent_then) kv log next)
         c.raft.max_log_entries heaviest needed (disk.content new).reading
 

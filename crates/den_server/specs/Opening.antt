@@ -48,7 +48,7 @@ held_weight log meta state = (log_shown log).weight + (meta_shown meta).weight +
 
 -- how heavy an engine is, at most, that was opened over files with so many bytes of regions
 abbrev pub opened_weight : ℕ → ℕ
-opened_weight bytes = 1024 + 8 * bytes
+opened_weight bytes = 1280 + 8 * bytes
 
 -- nothing was written: what is read stayed, nothing more is pending, and no image came that was none
 pub record IsUnwritten (old new : Content) (no_new_images : Type 0) : Type 0 where

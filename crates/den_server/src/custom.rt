@@ -40,11 +40,11 @@ fn run_over<
     ensures served { OnOk result (ServesPlan D.Disk L.Link C.Clock (handed G.LogStore T.MetaStore M.StateMachine log meta state)
         (K.view core) config.now disk.old disk.new link.old link.new clock.old clock.new) }
 
-    // At Ok, where the core leads, the log that the files give holds no more entries than the configuration allows.
+    // At Ok the log that the files give holds no more entries than the configuration allows, whatever the core's role.
     ensures short { OnOk result (LeavesShortLog D.Disk L.Link C.Clock (handed G.LogStore T.MetaStore M.StateMachine log meta state)
         (K.view core) config.now disk.old disk.new link.old link.new clock.old clock.new) }
 
-    // And the state machine asks for no checkpoint then.
+    // Where the core leads the state machine asks for no checkpoint then.
     ensures state_short { OnOk result (LeavesShortState D.Disk L.Link C.Clock (handed G.LogStore T.MetaStore M.StateMachine log meta state)
         (K.view core) config.now disk.old disk.new link.old link.new clock.old clock.new M.shown M.map M.short) }
 
@@ -79,11 +79,11 @@ fn run_over<
 }
 
 impl StandaloneEngine {
-    /// Serves the frames of a link, to the end of its input, over stores, a state machine and a core of the caller's own, as
-    /// they were opened. Each write is in the stores before a byte of its reply is sent. A core that does not lead begins no
-    /// term, and answers who leads. A log and a map that disagree are refused as `DataCorruption`, those that ask for a
-    /// lease where the state machine has none as `FeatureNotEnabled`, those that leave no term or index as `ProposeFailed`; nothing
-    /// is written then.
+    /// Serves the frames of a link, to the end of its input, over stores, a state machine and a core of the caller's
+    /// own, as they were opened. Each write is in the stores before a byte of its reply is sent. A core that does not
+    /// lead begins no term, and answers who leads; its log is purged at opening where it is too long. A log and a map
+    /// that disagree are refused as `DataCorruption`, those that ask for a lease where the state machine has none as
+    /// `FeatureNotEnabled`, those that leave no term or index as `ProposeFailed`; nothing is written then.
     pub fn run_custom<
         D: Disk,
         E: StorageEngine<D>,
@@ -110,11 +110,12 @@ impl StandaloneEngine {
         ensures served { OnOk result (ServesPlan D.Disk L.Link C.Clock (handed E.Log.LogStore E.Meta.MetaStore M.StateMachine (E.its_log storage) (E.its_meta storage) state)
             (K.view core) config.now disk.old disk.new link.old link.new clock.old clock.new) }
 
-        // At Ok, where the core leads, the log that the files give holds no more entries than the configuration allows.
+        // At Ok the log that the files give holds no more entries than the configuration allows, whatever the core's
+        // role.
         ensures short { OnOk result (LeavesShortLog D.Disk L.Link C.Clock (handed E.Log.LogStore E.Meta.MetaStore M.StateMachine (E.its_log storage) (E.its_meta storage) state)
             (K.view core) config.now disk.old disk.new link.old link.new clock.old clock.new) }
 
-        // And the state machine asks for no checkpoint then.
+        // Where the core leads the state machine asks for no checkpoint then.
         ensures state_short { OnOk result (LeavesShortState D.Disk L.Link C.Clock (handed E.Log.LogStore E.Meta.MetaStore M.StateMachine (E.its_log storage) (E.its_meta storage) state)
             (K.view core) config.now disk.old disk.new link.old link.new clock.old clock.new M.shown M.map M.short) }
 

@@ -12,17 +12,16 @@ use Rattle.den_model.specs.Step.{Step, is_leader}
 use Rattle.den_core.specs.Full.{IsReached, IsSlotTooShort, IsStepTooShort}
 use Rattle.den_core.specs.Making.{GivesShortLog}
 use Rattle.den_core.specs.Parts.{kv_of}
-use Rattle.den_core.specs.PayloadSizes.{chunk_sizes}
+use Rattle.den_core.specs.PayloadSizes.{opened_sizes}
 use Rattle.den_core.specs.Weights.{run_weight}
 use Rattle.den_core.proofs.GoesOn.{disk_twice, on_ok_three}
 use Rattle.den_core.proofs.Spared.{spares_twice}
 use Rattle.den_core.proofs.Weighing.{heavier, same_short, short_step}
 use Rattle.den_server.specs.Custom.{Stores, IsOneTooShort, behind, brought_weight, refusal_of, says_of}
 use Rattle.den_server.proofs.Ended.{rose_then}
-use Rattle.den_server.proofs.Handed.{runs_from, on_ok_two, nothing_sent, ends_with_opening, goes_on_from, served_over, opening_cause, serving_cause, never_both, named_so, opening_lighter, run_lighter}
+use Rattle.den_server.proofs.Handed.{runs_from, on_ok_two, nothing_sent, ends_with_opening, goes_on_from, served_over, opening_cause, serving_cause, never_both, named_so, opening_lighter, run_lighter, led_or, reached_over}
 use Rattle.den_server.proofs.Promised.{disk_alone}
 use Rattle.den_server.proofs.Refused.{if_err_two, some_refused}
-use Rattle.den_server.proofs.Surviving.{reached_from}
 use Rattle.den_server.proofs.custom.run_over.Goals as goal
 
 -- ---- the opening was refused
@@ -56,7 +55,7 @@ returns-in-Err-clause-refused g c =
     let brought = brought_weight s in
     let heavy = run_weight brought (L.taken link - L.taken link) in
     let files = (D.content last).reading in
-    let sizes = chunk_sizes s.map (behind s) in
+    let sizes = opened_sizes (g.K.Core.view c.args.core).role c.args.config.now.raft.max_log_entries s.log.value s.map (behind s) in
     opening_cause (Rose (D.faults first) (D.faults last)) (Rose (L.faults link) (L.faults link)) (D.kind first).limit (refusal_of s) _ c.in-Err.error c.in-Err.ensures.refused
     (heavier (IsTrue (D.kind first).tells × s.says.told) (IsTrue (D.kind first).tells × s.says.told) (λ needed. IsSlotTooShort sizes brought needed files)
     (IsOneTooShort D L g.C.Clock s (g.K.Core.view c.args.core) c.args.config.now first last link link clock clock)
@@ -93,16 +92,17 @@ returns-clause-served g c = on_ok_two c.run_from.result (λ answered served kept
     let same = runs_from _ kv kept _ c.in-Ok.ensures.opened c.in-Ok.ensures.running keep in (
       subst (λ (k : Kv). IsAnswered left (length readings) (length (frames limit input)) sent k (plan_over k limit input readings)) same (answered here),
       λ told. served_over _ _ (D.images c.run_from.new.disk) (D.moment c.run_from.new.disk) left (length readings) (length (frames limit input)) sent _ kv _ (g.G.LogStore.shown engine.log).value
-          (λ (k : Kv). plan_over k limit input readings) same c.in-Ok.ensures.log (served here told),
+          (λ (k : Kv). plan_over k limit input readings) same c.in-Ok.ensures.purged (served here told),
     )) c.run_from.ensures.answered c.run_from.ensures.served
 
 pub returns-clause-short : goal.returns-clause-short
-returns-clause-short g c = on_ok_weaker c.run_from.result (λ short leading tells told.
+returns-clause-short g c = on_ok_weaker c.run_from.result (λ short tells told.
     let D = g.D.Disk in
     let last = c.run_from.new.disk in
     let opened_tells : IsTrue (D.kind c.recover.new.disk).tells = subst (λ (k : Kind). IsTrue k.tells) (sym c.recover.ensures.disk.same) tells in
     subst (λ n. GivesShortLog g.G.LogStore.holds.of (D.images last) (D.moment last) n) c.in-Ok.ensures.most
-    (short (ap (λ (r : Running). is_leader r.setting.role) c.in-Ok.ensures.running ∙ leading) opened_tells told)) c.run_from.ensures.short
+    (short (led_or (is_leader c.in-Ok.engine.running.role) _
+    (λ follows. c.in-Ok.ensures.short (sym (ap (λ (r : Running). is_leader r.setting.role) c.in-Ok.ensures.running) ∙ follows))) opened_tells told)) c.run_from.ensures.short
 
 pub returns-clause-state_short : goal.returns-clause-state_short
 returns-clause-state_short g c = on_ok_three c.run_from.result (λ short ready rests leading. (
@@ -179,8 +179,8 @@ returns-clause-refused g c = if_err_two c.run_from.result _ _ _
     (λ needed t short. inr (short_step begun _ _ _ (run_weight weight taken) (run_weight brought taken) needed files
     (λ k log next reached kept tells keep.
     let opened_tells : IsTrue (D.kind opened).tells = subst (λ (x : Kind). IsTrue x.tells) (sym c.recover.ensures.disk.same) tells.disk_tells in
-    reached_from steps sent kv _ old_log s.log.value k log next
-    (runs_from _ kv kept _ c.in-Ok.ensures.opened c.in-Ok.ensures.running keep) c.in-Ok.ensures.log
+    reached_over steps sent kv _ old_log s.log.value k log next
+    (runs_from _ kv kept _ c.in-Ok.ensures.opened c.in-Ok.ensures.running keep) c.in-Ok.ensures.purged
     (reached (record { disk_tells = opened_tells; link_tells = tells.link_tells; clock_tells = tells.clock_tells })))
     c.in-Ok.ensures.most (run_lighter weight brought taken c.in-Ok.ensures.weight) short))
     kind_same (run_lighter weight brought taken c.in-Ok.ensures.weight) full))

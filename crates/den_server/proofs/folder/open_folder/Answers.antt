@@ -10,8 +10,9 @@ use Rattle.den_store.specs.FileLog.{log_shown, file_place}
 use Rattle.den_store.specs.FileMeta.{meta_shown}
 use Rattle.den_disk.specs.Families.{NoNewImages}
 use Rattle.den_core.specs.Full.{IsFullBy, IsSlotTooShort}
-use Rattle.den_core.specs.PayloadSizes.{chunk_sizes}
-use Rattle.den_core.proofs.Weighing.{same_short}
+use Rattle.den_core.specs.PayloadSizes.{chunk_sizes, opened_sizes}
+use Rattle.den_core.specs.Weights.{trim_rise}
+use Rattle.den_core.proofs.Weighing.{led_among, short_slot}
 use Rattle.den_server.specs.Causes.{IsCatchUpTooShort, IsUnreadFolder, most_run}
 use Rattle.den_model.specs.Log.{above}
 use Rattle.den_model.specs.Sizes.{entries_size, files_size, store_rise}
@@ -80,7 +81,7 @@ pub returns-clause-log : goal.returns-clause-log
 returns-clause-log g c = if_ok_weaker c.recover.result _ _ (λ engine is told. (c.in-Ok-open_stores.ensures.read told).log ∙ ap Ok (sym is)) c.recover.ensures.log
 
 -- what the stores weighed, and the entries that were applied
-lighter : (held entries more bytes : ℕ) → held ≤ 768 + 4 * bytes → entries ≤ bytes → more ≤ entries → held + store_rise more ≤ opened_weight bytes
+lighter : (held entries more bytes : ℕ) → held ≤ 768 + 4 * bytes → entries ≤ bytes → more ≤ entries → held + store_rise more + trim_rise ≤ opened_weight bytes
 lighter held entries more bytes stores all some = omega (arith, stores, all, some)
 
 pub returns-clause-weight : goal.returns-clause-weight
@@ -88,7 +89,7 @@ returns-clause-weight g c = if_ok_weaker c.recover.result _ _
     (λ engine weight told.
     let stores = c.in-Ok-open_stores.stores in
     let more = entries_size (above (state_map stores.state).mark.index (log_shown stores.log).value.entries) in
-    let got : held_weight engine.log engine.meta engine.state ≤ held_weight stores.log stores.meta stores.state + store_rise more = weight in
+    let got : held_weight engine.log engine.meta engine.state ≤ held_weight stores.log stores.meta stores.state + store_rise more + trim_rise = weight in
     let most = lighter (held_weight stores.log stores.meta stores.state) (entries_size (log_shown stores.log).value.entries) more (files_size (g.D.Disk.content c.args.disk.now).reading)
     (c.in-Ok-open_stores.ensures.weight told) (c.in-Ok-open_stores.ensures.entries told) (above_size (state_map stores.state).mark.index (log_shown stores.log).value.entries) in
     le_trans got most)
@@ -124,8 +125,11 @@ returns-clause-refused g c = if_err_two c.recover.result _ _ _
     let refusal = opening_refusal leased (file_place stores.log) (log_shown stores.log).value (meta_shown stores.meta).value (state_map stores.state) in
     let entries = (log_shown stores.log).value.entries in
     let more = entries_size (above (state_map stores.state).mark.index entries) in
-    let weight = held_weight stores.log stores.meta stores.state + store_rise more in
-    let sizes = chunk_sizes (state_map stores.state) (above (state_map stores.state).mark.index entries) in
+    let weight = held_weight stores.log stores.meta stores.state + store_rise more + trim_rise in
+    let role = (solo_view c.in-Ok.prepared.core.node.id c.in-Ok.prepared.core.term).role in
+    let most_kept = c.args.config.now.raft.max_log_entries in
+    let chunk = above (state_map stores.state).mark.index entries in
+    let sizes = opened_sizes role most_kept (log_shown stores.log).value (state_map stores.state) chunk in
     failure_refused rose _ (IsTrue (D.kind disk).tells) _ (refusal_in enabled (D.content disk).reading)
     (λ needed. IsSlotTooShort sizes weight needed (D.content c.recover.new.disk).reading) (λ most needed. IsCatchUpTooShort (D.content disk).reading most needed (D.content c.recover.new.disk).reading) (D.kind disk).limit weight (files_size (D.content disk).reading) leased (file_place stores.log)
     (log_shown stores.log).value (meta_shown stores.meta).value (state_map stores.state) e
@@ -135,7 +139,8 @@ returns-clause-refused g c = if_err_two c.recover.result _ _ _
       map = state_map stores.state;
       log_read = (c.in-Ok-open_stores.ensures.read told).log;
       map_read = (c.in-Ok-open_stores.ensures.read told).map;
-      short = same_short sizes weight (most_run (files_size (D.content disk).reading) 0) needed (D.content c.recover.new.disk).reading le short;
+      short = short_slot sizes (chunk_sizes (state_map stores.state) chunk) weight (most_run (files_size (D.content disk).reading) 0) needed (D.content c.recover.new.disk).reading
+          (led_among role most_kept (log_shown stores.log).value refl (state_map stores.state) chunk) le short;
     })
     (λ told. read_refusal enabled leased (D.content disk).reading _ _ _ _ (c.in-Ok-open_stores.ensures.leased ∙ c.in-Ok.ensures.leased) (c.in-Ok-open_stores.ensures.read told) (c.in-Ok-open_stores.ensures.place told))
     (λ told. lighter (held_weight stores.log stores.meta stores.state) (entries_size entries) more (files_size (D.content disk).reading)

@@ -198,7 +198,7 @@ returns-clause-short g c = on_ok_weaker c.run_from.result (λ short told.
     let last = c.run_from.new.disk in
     let opened_tells : IsTrue (D.kind c.open_folder.new.disk).tells = subst (λ (k : Kind). IsTrue k.tells) (sym c.open_folder.ensures.disk.same) told in
     subst (λ n. GivesShortLog (λ files. ok (log_in files)) (D.images last) (D.moment last) n) (c.in-Ok.ensures.most ∙ ap (λ (n : RaftNodeConfig). n.raft.max_log_entries) c.node.ensures)
-    (short c.in-Ok.ensures.leads opened_tells (tt, tt, tt))) c.run_from.ensures.short
+    (short (inl c.in-Ok.ensures.leads) opened_tells (tt, tt, tt))) c.run_from.ensures.short
 
 pub returns-clause-state_short : goal.returns-clause-state_short
 returns-clause-state_short g c = on_ok_three c.run_from.result (λ short ready rests told files at.
