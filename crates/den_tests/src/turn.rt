@@ -1,20 +1,22 @@
-//! The files of a family, as docs/FORMATS.md gives them.
+//! The files of a family, as docs/FORMATS.md gives them, for tests to compare with.
+//!
+//! These functions have no contracts: each would stand in the goals of every test that calls them.
 use den_disk::{Family, MemDisk, Part, Place};
 
 /// Pieces of bytes, one behind the other.
-pub(crate) type Pieces = &'static [&'static [u8]];
+pub type Pieces = &'static [&'static [u8]];
 
 /// The files of a family that was written anew: the head, the slot that it names with its regions, and the empty slot.
 #[derive(Clone, Copy)]
-pub(crate) struct Turn {
-    pub(crate) head: &'static [u8],
-    pub(crate) used: Part,
-    pub(crate) other: Part,
-    pub(crate) regions: Pieces,
+pub struct Turn {
+    pub head: &'static [u8],
+    pub used: Part,
+    pub other: Part,
+    pub regions: Pieces,
 }
 
 /// Those behind the first time, and the third.
-pub(crate) const IN_B: Turn = Turn {
+pub const IN_B: Turn = Turn {
     head: b"\x01",
     used: Part::B,
     other: Part::A,
@@ -22,19 +24,20 @@ pub(crate) const IN_B: Turn = Turn {
 };
 
 /// Those behind the second time, and the fourth.
-pub(crate) const IN_A: Turn = Turn {
+pub const IN_A: Turn = Turn {
     head: b"\0",
     used: Part::A,
     other: Part::B,
     regions: &[],
 };
 
-pub(crate) fn file(disk: &MemDisk, family: Family, part: Part) -> &[u8] {
+/// The bytes of a file.
+pub fn file(disk: &MemDisk, family: Family, part: Part) -> &[u8] {
     disk.get(Place { family, part })
 }
 
 /// What follows a piece, if it stands in front.
-pub(crate) fn cut<'a>(bytes: &'a [u8], piece: &[u8]) -> Option<&'a [u8]> {
+pub fn cut<'a>(bytes: &'a [u8], piece: &[u8]) -> Option<&'a [u8]> {
     if bytes.starts_with(piece) {
         return bytes.get(piece.len()..);
     }
@@ -42,7 +45,7 @@ pub(crate) fn cut<'a>(bytes: &'a [u8], piece: &[u8]) -> Option<&'a [u8]> {
 }
 
 /// What follows these pieces, if they stand in front.
-pub(crate) fn behind<'a>(bytes: &'a [u8], pieces: Pieces) -> Option<&'a [u8]> {
+pub fn behind<'a>(bytes: &'a [u8], pieces: Pieces) -> Option<&'a [u8]> {
     let mut rest = bytes;
     for piece in pieces {
         rest = cut(rest, piece)?;
@@ -51,7 +54,7 @@ pub(crate) fn behind<'a>(bytes: &'a [u8], pieces: Pieces) -> Option<&'a [u8]> {
 }
 
 /// Whether a file is one chunk of these pieces and then zeros.
-pub(crate) fn is_slot(file: &[u8], pieces: Pieces) -> bool {
+pub fn is_slot(file: &[u8], pieces: Pieces) -> bool {
     match behind(file, pieces) {
         None => false,
         Some(rest) => file.len() == 65_536 && rest.iter().all(|byte| *byte == 0),
@@ -59,7 +62,7 @@ pub(crate) fn is_slot(file: &[u8], pieces: Pieces) -> bool {
 }
 
 /// Whether the files of a family are these.
-pub(crate) fn holds_turn(disk: &MemDisk, family: Family, turn: Turn) -> bool {
+pub fn holds_turn(disk: &MemDisk, family: Family, turn: Turn) -> bool {
     file(disk, family, Part::Head) == turn.head
         && is_slot(file(disk, family, turn.used), turn.regions)
         && file(disk, family, turn.other).is_empty()

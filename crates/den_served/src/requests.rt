@@ -5,9 +5,9 @@ use crate::server::{
     Ending, NO_PAIR, PAIR, PUT, READ, SCAN, STATE, WRITTEN, answers, is_joined, link_of, run,
     run_by,
 };
-use crate::turn::Pieces;
 use den_codec::{RaftNodeConfig, SoloConfig};
 use den_disk::{ListClock, MemDisk};
+use den_tests::Pieces;
 use std::alloc::Global;
 use std::test::Fail;
 
@@ -18,7 +18,7 @@ const EXHAUSTED: &[u8] = b"\0\0\0\0\0\0\0\x05\x01\x11\0\0\0";
 // A write that failed, and the members of the default configuration: this node alone, which leads.
 pub(crate) const NOT_WRITTEN: &[u8] = b"\0\0\0\0\0\0\0\x06\x01\0\0\0\x01\0";
 
-const ITSELF: &[u8] =
+pub(crate) const ITSELF: &[u8] =
     b"\0\0\0\0\0\0\0\x38\x05\0\0\0\0\0\0\0\0\x01\0\0\0\x01\0\0\0\0\0\0\0\x01\0\0\0\x01\0\0\0\0\0\0\0\x0e127.0.0.1:9081\0\0\0\0\0\0\0\x02";
 // A body of no bytes, and a tail of three.
 const EMPTY_BODY: &[u8] = b"\0\0\0\0\0\0\0\0";
@@ -48,7 +48,7 @@ const READ_THREE: &[u8] =
 const PAIR_TWICE: &[u8] =
     b"\0\0\0\0\0\0\0\x31\x01\0\0\0\x02\0\0\0\0\0\0\0\x02\0\0\0\0\0\0\0\x01a\0\0\0\0\0\0\0\x01b\0\0\0\0\0\0\0\x01a\0\0\0\0\0\0\0\x01b";
 // A request for the members.
-const MEMBERS: &[u8] = b"\0\0\0\0\0\0\0\x05\x05\0\0\0\x01";
+pub(crate) const MEMBERS: &[u8] = b"\0\0\0\0\0\0\0\x05\x05\0\0\0\x01";
 // The region of a mark at the last index but one, and at the last.
 const LAST_BUT_ONE: &[u8] =
     b"\x01\0\0\0\0\0\0\0\x11\x04\xff\xff\xff\xff\xff\xff\xff\xfe\0\0\0\0\0\0\0\x01";

@@ -1,9 +1,9 @@
 //! Runs whose configuration is read from a source.
 use crate::server::{NO_PAIR, PAIR, READ, is_joined, link_of};
-use crate::turn::Pieces;
 use den_codec::{ConfigPlace, Error};
 use den_disk::{Clock, Disk, Link, ListClock, MemDisk, MemSource, Source};
 use den_server::StandaloneEngine;
+use den_tests::Pieces;
 use std::alloc::Global;
 use std::test::Fail;
 

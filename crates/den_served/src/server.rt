@@ -1,11 +1,11 @@
 //! The server: frames in, bytes out, and the bytes of the files, as docs/FORMATS.md gives them.
-use crate::turn::{IN_A, IN_B, Pieces, Turn, behind, cut, file, holds_turn, is_slot};
 use den_codec::{Error, LogId, RaftNodeConfig, SoloConfig};
 use den_disk::{Clock, Disk, DiskFault, Family, Link, ListClock, MemDisk, MemLink, Part, Place};
 use den_gate::{GateError, GateFile};
 use den_model::Blob;
 use den_server::StandaloneEngine;
 use den_store::{FileLogStore, LogStore};
+use den_tests::{IN_A, IN_B, Pieces, Turn, behind, cut, file, holds_turn, is_slot};
 use std::alloc::Global;
 use std::test::Fail;
 

@@ -2,9 +2,9 @@
 ghost use Rattle.std.specs.Prelude.{◌≤◌};
 
 use crate::server::{Ending, LOG, NO_PAIR, PAIR, PUT_C, READ, WRITTEN, is_joined, link_of, run_by};
-use crate::turn::Pieces;
 use den_codec::{RaftNodeConfig, SoloConfig};
 use den_disk::{ListClock, MemDisk};
+use den_tests::Pieces;
 use std::alloc::Global;
 use std::test::Fail;
 
@@ -19,7 +19,7 @@ const LOG_FOR_ONE: &[u8] =
     b"\x01\0\0\0\0\0\0\0\x3d\x01\0\0\0\0\0\0\0\x01\0\0\0\0\0\0\0\x01\0\0\0\0\0\0\0\x01\0\0\0\0\0\0\x03\xe8\x01\0\0\0\0\0\0\0\x01a\0\0\0\0\0\0\0\x01b\x01\0\0\0\0\0\0\0\x01";
 
 // The default configuration with leases, and with so many milliseconds between two cleanups.
-fn with_leases(alloc: Global, interval: u64) -> Result<SoloConfig, Fail>
+pub(crate) fn with_leases(alloc: Global, interval: u64) -> Result<SoloConfig, Fail>
     requires { 1 ≤ interval }
 {
     let mut config = RaftNodeConfig::standard(alloc)?;
