@@ -1,7 +1,7 @@
 #!/usr/bin/env python3
 """Tries the built server on real files, where no proof reaches: kills and signals in the midst of its writes, garbage,
 disks that do not take a write, requests of all kinds beside a plain map, closed descriptors, two servers on one folder,
-words that name none, the modes of what it makes. Says what it did, and ends with 1 where a put that was answered is lost, or a status, a line or a file is another.
+words that name none, the modes of what it makes, and the client of clients/den.py. Says what it did, and ends with 1 where a put that was answered is lost, or a status, a line or a file is another.
 
 A kill leaves what the operating system was handed, synced or not: it shows the order of writes and replies, and the opening
 of what stands there, and not that a sync was made.
@@ -19,13 +19,13 @@ import tempfile
 sys.dont_write_bytecode = True
 
 import answers
+import clients
 import descriptors
 import faults
 import stops
 import two_servers
-from serving import fail, say
+from serving import TOP, fail, say
 
-TOP = os.path.dirname(os.path.dirname(os.path.abspath(__file__)))
 BUILT = os.path.join(TOP, "crates", "den_program", "out", "den_program")
 
 
@@ -44,6 +44,7 @@ def try_all(program, room):
     faults.streams(program, room)
     descriptors.descriptors(program, room)
     two_servers.two_servers(program, room)
+    clients.clients(program, room)
     answers.whole_runs(program, room, draw)
     answers.stopped_runs(program, room, draw)
     stops.signals(program, room, draw)

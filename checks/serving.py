@@ -5,6 +5,7 @@ import sys
 import threading
 
 LIMIT = 120
+TOP = os.path.dirname(os.path.dirname(os.path.abspath(__file__)))
 NOBODY = 65534
 WRITTEN = bytes.fromhex("0100000001" "01")
 
