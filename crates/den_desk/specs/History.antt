@@ -1,10 +1,11 @@
 -- What a list of finished calls comes to, from a state on: what each call was answered, and the state behind all.
-use Rattle.std.specs.Prelude.{◌≡◌, ℕ, suc, ◌-◌, min, ◌<◌, Bool, true, false, List, [], ◌∷◌, ◌++◌, length, take, drop, Option, Some, None, Result, Ok, Err}
+use Rattle.std.specs.Prelude.{◌≡◌, ℕ, suc, ◌+◌, ◌-◌, ◌||◌, min, Bool, true, false, List, [], ◌∷◌, ◌++◌, length, take, drop, Option, Some, None, is_some, Result, Ok, Err}
 use Rattle.den_model.specs.declared.reply.ErrorCode.TheVariants as code
 use Rattle.den_model.specs.declared.reply.Reply.{Reply}
 use Rattle.den_model.specs.declared.reply.WatchEvent.{WatchEvent}
 use Rattle.den_model.specs.Kv.{Kv}
 use Rattle.den_model.specs.Plan.{after, turn}
+use Rattle.den_model.specs.Sizes.{frame_size}
 use Rattle.den_model.specs.Step.{failed, moment_of}
 use Rattle.den_watch.specs.declared.error.WatchError.{WatchError}
 use Rattle.den_watch.specs.declared.error.WatchError.TheVariants.{WatchBufferOverflow}
@@ -159,17 +160,35 @@ Tells before ended call (Err kind) (Err e) = e ≡ told_error ended (length befo
 Tells before ended call (Ok given) (Err e) = ⊥
 Tells before ended call (Err kind) (Ok a) = ⊥
 
--- why a call failed by itself: a fault of the disk where its count rose, a file that would pass the limit, or want of memory
-abbrev pub IsCause : Type 0 → ℕ → FailKind → Type 0
-IsCause rose most StorageIoError = rose
-IsCause rose most (DiskFull needed limit) = (limit < needed) × (limit ≡ most)
-IsCause rose most OutOfMemory = Unit {0}
-IsCause rose most Stopped = ⊥
-
--- One entry more, of this call, and what its caller is told of it. Where the history had not ended and the call failed, it is
--- for a cause.
-pub record Adds (before after : List Finished) (ended : Option End) (caller moment : ℕ) (call : Call) (rose : Type 0) (most : ℕ) (result : Result Answered CallError) : Type 0 where
+-- One entry more, of this call, and what its caller is told of it. Where the history had not ended and the call failed, it is for
+-- a cause.
+pub record Adds (before after : List Finished) (ended : Option End) (caller moment : ℕ) (call : Call) (Fails : FailKind → Type 0) (result : Result Answered CallError) : Type 0 where
   pub outcome : Result Answer FailKind
   pub entry : after ≡ before ++ finished caller moment call outcome ∷ []
   pub told : Tells before ended call outcome result
-  pub cause : (kind : FailKind) → ended ≡ None → outcome ≡ Err kind → IsCause rose most kind
+  pub cause : (kind : FailKind) → ended ≡ None → outcome ≡ Err kind → Fails kind
+
+-- What a call leaves of a history that began at this standing: one entry more; or, for want of memory, what it was.
+pub record Turned (start : Standing) (before after : List Finished) (caller moment : ℕ) (call : Call) (Fails : FailKind → Type 0) (result : Result Answered CallError) : Type 0 where
+  pub untouched : has_no_entry result ≡ true → after ≡ before
+  pub added : has_no_entry result ≡ false → Adds before after (standing_of 0 start before).ended caller moment call Fails result
+
+-- ---- what finished calls asked of the files, and whether one failed
+
+-- the size of the request that a call serves
+abbrev pub served_size : Call → ℕ
+served_size (Serve frame) = frame_size frame
+served_size (Take watcher) = 0
+served_size (Unregister watcher) = 0
+served_size (Look from most) = 0
+served_size Stop = 0
+
+-- 1,024 bytes for each entry, and the sizes of the requests
+abbrev pub asked_bytes : List Finished → ℕ
+asked_bytes [] = 0
+asked_bytes (f ∷ fs) = 1024 + served_size f.call + asked_bytes fs
+
+-- an entry failed, other than behind a stop
+abbrev pub has_failure : List Finished → Bool
+has_failure [] = false
+has_failure (f ∷ fs) = is_some (failure_at 0 f.outcome) || has_failure fs

@@ -1,10 +1,10 @@
 //! One engine with its disk, and the history of the calls that were made of it.
-ghost use Rattle.std.specs.Prelude.{◌≡◌, ◌≤◌, IsTrue, true, false, Some, None, [], List, Result, Ok, Err, IfOk, OnOk, IfErr, take, drop, length, min, ◌-◌};
+ghost use Rattle.std.specs.Prelude.{◌≡◌, ◌≤◌, ◌+◌, IsTrue, true, false, Some, None, [], List, Result, Ok, Err, IfOk, OnOk, IfErr, take, drop, length, min, ◌-◌};
 ghost use Rattle.den_codec.specs.declared.error.Error.{Error};
-ghost use Rattle.den_disk.specs.Goes.{Rose};
 ghost use Rattle.den_journal.specs.Writes.{GoesOn};
 ghost use Rattle.den_core.specs.Kept.{asked_of, registry_behind};
 ghost use Rattle.den_core.specs.Making.{CanGoOn};
+ghost use Rattle.den_model.specs.Crash.{Stands};
 ghost use Rattle.den_model.specs.Plan.{after, turn};
 ghost use Rattle.den_model.specs.Step.{moment_of};
 ghost use Rattle.den_watch.specs.Registry.{emptied, is_registered, taken_from, without};
@@ -12,11 +12,12 @@ ghost use Rattle.den_desk.specs.declared.history.Call.TheVariants.{Serve};
 ghost use Rattle.den_desk.specs.declared.history.End.{End};
 ghost use Rattle.den_desk.specs.declared.history.CallError.TheVariants.{OutOfMemory as no_memory};
 ghost use Rattle.den_desk.specs.declared.history.FailKind.TheVariants.{Stopped};
-ghost use Rattle.den_desk.specs.History.{Adds, IsCause, answer_at, has_no_entry, looked_at, standing_after, stop_at, told_error, told_of_take};
-ghost use Rattle.den_desk.specs.Keeping.{IsKept, StandsAt, first_standing, kind_of};
+ghost use Rattle.den_desk.specs.History.{Adds, answer_at, has_no_entry, looked_at, standing_after, stop_at, told_error, told_of_take};
+ghost use Rattle.den_desk.specs.Keeping.{Fails, IsHistoryOf, IsKept, StandsAt, call_rise, first_standing, kind_of};
 
 use crate::copies::{Duplicate, copy_items};
 use crate::history::{Answer, Answered, Call, CallError, End, FailKind, Finished};
+use crate::station::Station;
 use den_codec::{Error, Frame, Rows, WatchEvent};
 use den_core::{Core, Engine, Stepper};
 use den_disk::Disk;
@@ -150,6 +151,12 @@ fn stop_at(place: u64, call: &Call) -> Option<End>
     }
 }
 
+// The files of a stepper that can go on stand for its durable part, on each image of the disk.
+fn stands<D: Disk, S: Stepper<D>>(_stepper: &S, _disk: &D)
+    ensures stands { CanGoOn D.Disk (S.seen _stepper.now) _disk.now → IsTrue (D.kind _disk.now).tells → S.says.told
+        → Stands S.says.holds (D.images _disk.now) (D.moment _disk.now) (S.seen _stepper.now).kv.durable }
+{}
+
 // Makes the turn of a frame.
 fn serve<D: Disk, G: LogStore<D>, T: MetaStore<D>, M: StateMachine<D>, K: Core<D>>(
     engine: &mut Engine<G, T, M, K>,
@@ -162,7 +169,8 @@ fn serve<D: Disk, G: LogStore<D>, T: MetaStore<D>, M: StateMachine<D>, K: Core<D
     ensures answered { IfOk result (λ answer. answer ≡ answer_at 0 (first_standing (⟦<Engine<G, T, M, K> as Stepper<D>>⟧.seen engine.old)) moment (Serve frame)) }
     ensures stands { OnOk result (StandsAt D.Disk (standing_after 0 (first_standing (⟦<Engine<G, T, M, K> as Stepper<D>>⟧.seen engine.old)) moment (Serve frame))
         (⟦<Engine<G, T, M, K> as Stepper<D>>⟧.seen engine.new) disk.new) }
-    ensures cause { IfErr result (IsCause (Rose (D.faults disk.old) (D.faults disk.new)) (D.kind disk.old).limit) }
+    ensures weight { OnOk result ((⟦<Engine<G, T, M, K> as Stepper<D>>⟧.seen engine.new).weight ≤ (⟦<Engine<G, T, M, K> as Stepper<D>>⟧.seen engine.old).weight + call_rise (Serve frame)) }
+    ensures cause { IfErr result (Fails D.Disk ⟦<Engine<G, T, M, K> as Stepper<D>>⟧.says.told (⟦<Engine<G, T, M, K> as Stepper<D>>⟧.seen engine.old) disk.old disk.new moment (Serve frame)) }
 {
     match engine.step_kept(disk, frame, moment.max(1)) {
         Ok(reply) => Ok(Answer::Reply(reply)),
@@ -183,7 +191,8 @@ fn answer<D: Disk, G: LogStore<D>, T: MetaStore<D>, M: StateMachine<D>, K: Core<
     ensures answered { IfOk result (λ answer. answer ≡ answer_at place (first_standing (⟦<Engine<G, T, M, K> as Stepper<D>>⟧.seen engine.old)) moment call) }
     ensures stands { OnOk result (StandsAt D.Disk (standing_after place (first_standing (⟦<Engine<G, T, M, K> as Stepper<D>>⟧.seen engine.old)) moment call)
         (⟦<Engine<G, T, M, K> as Stepper<D>>⟧.seen engine.new) disk.new) }
-    ensures cause { IfErr result (IsCause (Rose (D.faults disk.old) (D.faults disk.new)) (D.kind disk.old).limit) }
+    ensures weight { OnOk result ((⟦<Engine<G, T, M, K> as Stepper<D>>⟧.seen engine.new).weight ≤ (⟦<Engine<G, T, M, K> as Stepper<D>>⟧.seen engine.old).weight + call_rise call) }
+    ensures cause { IfErr result (Fails D.Disk ⟦<Engine<G, T, M, K> as Stepper<D>>⟧.says.told (⟦<Engine<G, T, M, K> as Stepper<D>>⟧.seen engine.old) disk.old disk.new moment call) }
 {
     match call {
         Call::Serve(frame) => serve(engine, disk, frame, moment),
@@ -213,7 +222,8 @@ fn answer_twice<D: Disk, G: LogStore<D>, T: MetaStore<D>, M: StateMachine<D>, K:
     ensures answered { IfOk result (λ both. (both.0 ≡ answer_at place (first_standing (⟦<Engine<G, T, M, K> as Stepper<D>>⟧.seen engine.old)) moment call) × (both.1 ≡ both.0)) }
     ensures stands { OnOk result (StandsAt D.Disk (standing_after place (first_standing (⟦<Engine<G, T, M, K> as Stepper<D>>⟧.seen engine.old)) moment call)
         (⟦<Engine<G, T, M, K> as Stepper<D>>⟧.seen engine.new) disk.new) }
-    ensures cause { IfErr result (IsCause (Rose (D.faults disk.old) (D.faults disk.new)) (D.kind disk.old).limit) }
+    ensures weight { OnOk result ((⟦<Engine<G, T, M, K> as Stepper<D>>⟧.seen engine.new).weight ≤ (⟦<Engine<G, T, M, K> as Stepper<D>>⟧.seen engine.old).weight + call_rise call) }
+    ensures cause { IfErr result (Fails D.Disk ⟦<Engine<G, T, M, K> as Stepper<D>>⟧.says.told (⟦<Engine<G, T, M, K> as Stepper<D>>⟧.seen engine.old) disk.old disk.new moment call) }
 {
     let answer = answer(engine, disk, place, moment, call)?;
     match answer.duplicate(alloc) {
@@ -265,10 +275,13 @@ impl<D: Disk, G: LogStore<D>, T: MetaStore<D>, M: StateMachine<D>, K: Core<D>> D
 
     /// Lets the engine and the disk go, with all finished calls.
     pub fn close(self) -> Closed<D, G, T, M, K>
+        ensures told { IsKept D.Disk (⟦<Engine<G, T, M, K> as Stepper<D>>⟧.seen self.first.value) (⟦<Engine<G, T, M, K> as Stepper<D>>⟧.seen self.engine) self.first_disk.value self.disk self.ended self.history.items
+            → IsHistoryOf D.Disk ⟦<Engine<G, T, M, K> as Stepper<D>>⟧.says (⟦<Engine<G, T, M, K> as Stepper<D>>⟧.seen self.first.value) self.first_disk.value result.disk result.history }
         ensures engine { result.engine ≡ self.engine }
         ensures disk { result.disk ≡ self.disk }
         ensures history { result.history ≡ self.history.items }
     {
+        stands(&self.engine, &self.disk);
         Closed {
             engine: self.engine,
             disk: self.disk,
@@ -286,7 +299,7 @@ impl<D: Disk, G: LogStore<D>, T: MetaStore<D>, M: StateMachine<D>, K: Core<D>> D
         ensures first_disk { self.new.first_disk.value ≡ self.old.first_disk.value }
         ensures disk { GoesOn D.Disk self.old.disk self.new.disk }
         ensures untouched { has_no_entry result ≡ true → (self.new.engine ≡ self.old.engine) × (self.new.disk ≡ self.old.disk) × (self.new.ended ≡ self.old.ended) × (self.new.history.items ≡ self.old.history.items) }
-        ensures added { has_no_entry result ≡ false → Adds self.old.history.items self.new.history.items self.old.ended caller moment call (Rose (D.faults self.old.disk) (D.faults self.new.disk)) (D.kind self.old.disk).limit result }
+        ensures added { has_no_entry result ≡ false → Adds self.old.history.items self.new.history.items self.old.ended caller moment call (Fails D.Disk ⟦<Engine<G, T, M, K> as Stepper<D>>⟧.says.told (⟦<Engine<G, T, M, K> as Stepper<D>>⟧.seen self.old.engine) self.old.disk self.new.disk moment call) result }
     {
         let Ok((kept, looked)) = copy_call(self.alloc, self.history.as_slice(), &call) else {
             return Err(CallError::OutOfMemory { place: None });
@@ -338,4 +351,21 @@ impl<D: Disk, G: LogStore<D>, T: MetaStore<D>, M: StateMachine<D>, K: Core<D>> D
             }
         }
     }
+}
+
+impl<D: Disk, G: LogStore<D>, T: MetaStore<D>, M: StateMachine<D>, K: Core<D>> Station
+    for Desk<D, G, T, M, K> {
+    ghost lawful = { λ desk. IsKept D.Disk (⟦<Engine<G, T, M, K> as Stepper<D>>⟧.seen desk.first.value) (⟦<Engine<G, T, M, K> as Stepper<D>>⟧.seen desk.engine) desk.first_disk.value desk.disk desk.ended desk.history.items };
+
+    ghost start = { λ desk. first_standing (⟦<Engine<G, T, M, K> as Stepper<D>>⟧.seen desk.first.value) };
+
+    ghost history = { λ desk. desk.history.items };
+
+    ghost fails = { λ old new moment call. Fails D.Disk ⟦<Engine<G, T, M, K> as Stepper<D>>⟧.says.told (⟦<Engine<G, T, M, K> as Stepper<D>>⟧.seen old.engine) old.disk new.disk moment call };
+
+    fn turn(&mut self, caller: u64, moment: u64, call: Call) -> Result<Answered, CallError> {
+        Desk::turn(self, caller, moment, call)
+    }
+
+    ghost replayed = { λ desk kept. kept.replays };
 }

@@ -2,7 +2,7 @@
 //!
 //! A `Desk` has an engine, its disk, and a history: each call that was made of it, by whom, at which moment, and what it came to.
 //! `turn` makes one call and adds its entry. A call serves a frame, takes what waits for a watcher, ends a watch, looks at
-//! the history itself, or ends the desk.
+//! the history itself, or ends the desk. `Station` is what those ask of a desk who make calls, with no disk in it.
 //!
 //! Invariants, and where each stands:
 //!
@@ -13,6 +13,9 @@
 //!    specs/History.antt.
 //! 4. A call has one entry, or none for want of memory before it is made, which leaves all as it was: `untouched` and `added`
 //!    of `Desk::turn`.
+//! 5. A call fails by itself only for a cause, and a failed entry has one since `new`: `Fails` and `HasCauseSince` in
+//!    specs/Keeping.antt. `Desk::close` tells it, and that where no call failed the disk stands for the replay's durable part:
+//!    `IsHistoryOf` there.
 //!
 //! Worked rows are computed from the definitions and compared, in proofs/WorkedHistories.antt.
 //!
@@ -24,6 +27,8 @@
 mod copies;
 mod desk;
 mod history;
+mod station;
 
 pub use desk::{Closed, Desk};
 pub use history::{Answer, Answered, Call, CallError, End, FailKind, Finished};
+pub use station::Station;
