@@ -22,6 +22,14 @@ pub enum Cause {
     Input(Why),
     /// A write to standard output failed.
     Output(Why),
+    /// A port could not be listened on, or gave no connection.
+    Port(u16, Why),
+    /// A read of the connection failed.
+    Receive(Why),
+    /// A write to the connection failed.
+    Send(Why),
+    /// The file of the configuration could not be opened, or a read of it failed.
+    Configuration(Why),
 }
 
 /// What is kept of an error: the operating system's number, or the kind of one that is not the system's.
@@ -66,6 +74,10 @@ impl Display for Cause {
             Cause::Sync(place, why) => write!(f, "{}: a sync failed: {why}", name(place)),
             Cause::Input(why) => write!(f, "standard input: {why}"),
             Cause::Output(why) => write!(f, "standard output: {why}"),
+            Cause::Port(port, why) => write!(f, "port {port}: {why}"),
+            Cause::Receive(why) => write!(f, "what the client sends: {why}"),
+            Cause::Send(why) => write!(f, "what is sent to the client: {why}"),
+            Cause::Configuration(why) => write!(f, "the configuration's file: {why}"),
         }
     }
 }

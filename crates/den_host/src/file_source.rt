@@ -1,6 +1,7 @@
 //! A file of the machine that is read once.
 ghost use Rattle.std.specs.Prelude.{◌≡◌, ◌≤◌, false, [], IfOk, length};
 
+use crate::cause::{Cause, noted};
 use crate::system_call::{counted, read_once};
 use den_disk::{Piece, Source, SourceFault};
 use std::rt::Files;
@@ -13,6 +14,7 @@ pub struct FileSource<R: Files> {
     path: String,
     file: Option<R::File>,
     faults: u64,
+    cause: Option<Cause>,
 }
 
 impl<R: Files> FileSource<R> {
@@ -23,7 +25,13 @@ impl<R: Files> FileSource<R> {
             path,
             file: None,
             faults: 0,
+            cause: None,
         }
+    }
+
+    /// Why the last call that failed did so.
+    pub fn cause(&self) -> Option<Cause> {
+        self.cause
     }
 }
 
@@ -36,6 +44,10 @@ impl<R: Files> Source for FileSource<R> {
 
     fn read(&mut self, buf: &mut [u8]) -> Result<Piece, SourceFault> {
         let read = read_file(&self.rt, self.path.as_str(), &mut self.file, buf);
+        let read = noted(
+            &mut self.cause,
+            read.map_err(|e| Cause::Configuration(e.into())),
+        );
         match counted(&mut self.faults, read, SourceFault)? {
             0 => Ok(Piece::End),
             n => Ok(Piece::Got(n)),

@@ -4,6 +4,7 @@ ghost use Rattle.den_disk.specs.Goes.{HasCause};
 
 use std::io;
 use std::io::{ErrorKind, Read};
+use std::net::OpenListener;
 
 // How often a call that a signal interrupted is tried again.
 const TRIES: u32 = 1_000_000;
@@ -34,6 +35,18 @@ pub(crate) fn read_once<R: Read>(reader: &mut R, buf: &mut [u8]) -> io::Result<u
         match reader.read(buf) {
             Err(e) if e.kind() == ErrorKind::Interrupted => {}
             done => return done,
+        }
+    }
+    Err(io::Error::from(ErrorKind::Interrupted))
+}
+
+// Waits for a client once, and again where a signal interrupts it.
+pub(crate) fn accept_once<L: OpenListener>(listener: &L) -> io::Result<L::Stream> {
+    for _ in 0..TRIES {
+        match listener.accept() {
+            Err(e) if e.kind() == ErrorKind::Interrupted => {}
+            Err(e) => return Err(e),
+            Ok((stream, _)) => return Ok(stream),
         }
     }
     Err(io::Error::from(ErrorKind::Interrupted))
