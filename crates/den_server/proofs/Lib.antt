@@ -4,5 +4,6 @@ pub mod Handed
 pub mod Promised
 pub mod Refused
 pub mod Settled
+pub mod Standard
 pub mod Surviving
 pub mod Told

@@ -1,17 +1,21 @@
 -- What a run promises, where less is known of its end, and where it was lent nothing but the disk.
-use Rattle.std.proofs.Common.{◌≡◌, ◌↔◌, IsTrue, refl, sym, subst, arith}
+use Rattle.std.proofs.Common.{◌≡◌, ◌↔◌, ℕ, IsTrue, IsOk, Result, Err, inl, inr, refl, sym, subst, arith}
 use Rattle.den_disk.specs.declared.clock.Clock.{Ghosts as Clocks}
 use Rattle.den_disk.specs.declared.disk.Disk.{Ghosts as Disks}
 use Rattle.den_disk.specs.declared.link.Link.{Ghosts as Links}
 use Rattle.den_disk.specs.declared.place.Family.TheVariants.{Snapshot}
-use Rattle.den_disk.specs.Files.{Files, Kind, IsImage}
+use Rattle.den_disk.specs.Files.{Content, Files, Kind, IsImage}
+use Rattle.den_disk.specs.Families.{NoNewImages}
 use Rattle.den_disk.specs.Goes.{DiskGoesOn}
+use Rattle.den_codec.specs.declared.error.Error.{Error}
+use Rattle.den_codec.specs.declared.error.Error.TheVariants.{OutOfMemory}
 use Rattle.den_model.specs.Image.{durable_in}
 use Rattle.den_journal.specs.Writes.{DiskTells}
 use Rattle.den_core.specs.Spared.{SparesFamily}
 use Rattle.den_core.proofs.GoesOn.{disk_same, link_same, clock_same}
 use Rattle.den_core.proofs.Spared.{spares_still}
-use Rattle.den_server.specs.Promises.{RunConfig, SendsPrefix, SurvivesCrash, SurvivesPending, AllGoOn, start}
+use Rattle.den_server.specs.Opening.{IsUnwritten}
+use Rattle.den_server.specs.Promises.{RunConfig, Runs, SendsPrefix, SurvivesCrash, SurvivesPending, AllGoOn, start}
 use Rattle.den_server.proofs.Settled.{no_call, never_settles, settled_survives}
 use Rattle.den_server.proofs.Surviving.{all_along, no_reading, opening_front, reading_image}
 
@@ -58,3 +62,25 @@ module _ {D L C : Type 0} (disk : Disks D) (link : Links L) (clock : Clocks C) w
       no_reading durable_in (disk.images d) (disk.images d) (disk.moment d) (disk.moment d) ended_well _ (link.sent l) (start config kept) config.frame_limit (link.left l) (clock.readings c)
       (settled_survives durable_in (disk.images d) (disk.images d) (disk.moment d) (disk.moment d) ended_well _ (disk.content d).reading (start config kept) reads (no_call (disk.images d) (disk.moment d))
       (never_settles (disk.images d) (disk.moment d) (disk.moment d) ended_well _ (disk.content d).reading (omega arith) never refl))
+
+  -- where nothing is done nothing is written
+  still_unwritten : (content : Content) (images : ℕ → Files → Type 0) (moment : ℕ) → IsUnwritten content content (NoNewImages images images moment moment)
+  still_unwritten content images moment = record { content = record { reading = λ q. refl; pending = λ q k at. at }; images = no_call images moment }
+
+  -- memory was wanting before any call was made
+  pub not_run : (config : RunConfig) (d : D) (l : L) (c : C) → ((files : Files) → DiskTells disk d → disk.images d (disk.moment d) files ↔ IsImage (disk.content d) files)
+      → Runs disk link clock config d d l l c c (Err OutOfMemory)
+  not_run config d l c now =
+      let answer : Result (Unit {0}) Error = Err OutOfMemory in
+      let pending : SurvivesPending disk link clock config d d l l c c (IsOk answer) = no_call_survives config d l c (IsOk answer) (λ ok. cc ok) in
+      record {
+        served = record {};
+        short = record {};
+        state_short = record {};
+        prefix = sends_prefix config d d l l c c (IsOk answer) refl now pending;
+        any_moment = survives_all_along config d d l l c c (IsOk answer) now pending;
+        opening = pending;
+        refused = record {};
+        turned_away = λ e told is. ((record {}, inr (inl refl)), still_unwritten (disk.content d) (disk.images d) (disk.moment d), refl, refl);
+        complete = λ told link_tells none disk_calm link_calm small. inr refl;
+      }

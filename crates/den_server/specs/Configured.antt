@@ -1,5 +1,5 @@
 -- What a run promises whose configuration is read from a source.
-use Rattle.std.specs.Prelude.{◌≡◌, pos, Some, None, Result, Ok, Err}
+use Rattle.std.specs.Prelude.{◌≡◌, ◌⊎◌, pos, Some, None, Result, Ok, Err}
 use Rattle.den_codec.specs.declared.config_place.ConfigPlace.{ConfigPlace}
 use Rattle.den_codec.specs.declared.error.Error.{Error}
 use Rattle.den_codec.specs.declared.error.Error.TheVariants.{OutOfMemory, StorageIoError, DiskFull, LinkFault, DataCorruption, FeatureNotEnabled, ProposeFailed, UnorderedChunk, Config, ConfigFault, StateMachineError}
@@ -22,27 +22,37 @@ run_config_of v = record {
   max_log_entries = v.raft.max_log_entries;
 }
 
--- Where a source tells its bytes, and they give a configuration: this is promised of a run under it.
-abbrev pub Configured : (told : Type 0) (outcome : Result ConfigValues ConfigPlace) (promise : RunConfig → Type 0) → Type 0
-Configured told outcome promise = (v : ConfigValues) → told → outcome ≡ Ok v → promise (run_config_of v)
+-- the run's configuration that the outcome of a source's bytes gives
+abbrev pub run_config_in : Result ConfigValues ConfigPlace → Result RunConfig ConfigPlace
+run_config_in (Ok values) = Ok (run_config_of values)
+run_config_in (Err key) = Err key
 
--- A configuration was read, that of the bytes where the source tells them, and this holds of a run under it.
+-- Where a source tells its bytes, they give a configuration, and it is of a run with a promise.
 pub record HasRun (told : Type 0) (outcome : Result ConfigValues ConfigPlace) (holds : RunConfig → Type 0) : Type 0 where
-  pub values : ConfigValues
-  pub given : told → outcome ≡ Ok values
-  pub held : holds (run_config_of values)
+  -- the run's configuration
+  pub config : RunConfig
+  -- it is that of the bytes, where the source tells them
+  pub given : told → run_config_in outcome ≡ Ok config
+  -- of a run under it this holds
+  pub held : holds config
 
--- Why it ends early: want of memory; a fault of the source where its count rose; the key that the bytes are refused for,
--- and then nothing was done; or, under the configuration that was read, what a run ends for.
-abbrev pub IsConfiguredRefusal : (source_rose told : Type 0) (outcome : Result ConfigValues ConfigPlace) (untouched : Type 0) (ends : RunConfig → Error → Type 0) → Error → Type 0
-IsConfiguredRefusal source_rose told outcome untouched ends OutOfMemory = Unit {0}
-IsConfiguredRefusal source_rose told outcome untouched ends ConfigFault = source_rose × untouched
-IsConfiguredRefusal source_rose told outcome untouched ends (Config key) = (told → outcome ≡ Err key) × untouched
-IsConfiguredRefusal source_rose told outcome untouched ends StorageIoError = HasRun told outcome (λ config. ends config StorageIoError)
-IsConfiguredRefusal source_rose told outcome untouched ends (DiskFull needed limit) = HasRun told outcome (λ config. ends config (DiskFull needed limit))
-IsConfiguredRefusal source_rose told outcome untouched ends LinkFault = HasRun told outcome (λ config. ends config LinkFault)
-IsConfiguredRefusal source_rose told outcome untouched ends (DataCorruption place offset) = HasRun told outcome (λ config. ends config (DataCorruption place offset))
-IsConfiguredRefusal source_rose told outcome untouched ends FeatureNotEnabled = HasRun told outcome (λ config. ends config FeatureNotEnabled)
-IsConfiguredRefusal source_rose told outcome untouched ends ProposeFailed = HasRun told outcome (λ config. ends config ProposeFailed)
-IsConfiguredRefusal source_rose told outcome untouched ends (UnorderedChunk index) = ⊥
-IsConfiguredRefusal source_rose told outcome untouched ends StateMachineError = ⊥
+-- A refusal of a source, or a run with an error, by the error.
+abbrev pub IsRunError : (rose told : Type 0) (outcome : Result ConfigValues ConfigPlace) (untouched ran : Type 0) → Error → Type 0
+IsRunError rose told outcome untouched ran ConfigFault = rose × untouched
+IsRunError rose told outcome untouched ran (Config key) = (told → outcome ≡ Err key) × untouched
+IsRunError rose told outcome untouched ran OutOfMemory = untouched ⊎ ran
+IsRunError rose told outcome untouched ran StorageIoError = ran
+IsRunError rose told outcome untouched ran (DiskFull needed limit) = ran
+IsRunError rose told outcome untouched ran LinkFault = ran
+IsRunError rose told outcome untouched ran (DataCorruption place offset) = ran
+IsRunError rose told outcome untouched ran FeatureNotEnabled = ran
+IsRunError rose told outcome untouched ran ProposeFailed = ran
+IsRunError rose told outcome untouched ran (UnorderedChunk index) = ⊥
+IsRunError rose told outcome untouched ran StateMachineError = ⊥
+
+-- What a run under a source's configuration came to. At Ok it was a run under the configuration of the bytes. At an error:
+-- a fault of the source, where its count rose, or the key that the bytes are refused for, and nothing else was touched; want
+-- of memory before anything was touched, or in the run; or the run's own error.
+abbrev pub IsRun : (rose told : Type 0) (outcome : Result ConfigValues ConfigPlace) (untouched : Type 0) (ran : RunConfig → Result (Unit {0}) Error → Type 0) → Result (Unit {0}) Error → Type 0
+IsRun rose told outcome untouched ran (Ok done) = HasRun told outcome (λ config. ran config (Ok done))
+IsRun rose told outcome untouched ran (Err e) = IsRunError rose told outcome untouched (HasRun told outcome (λ config. ran config (Err e))) e

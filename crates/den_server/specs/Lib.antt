@@ -1,5 +1,6 @@
 pub mod Causes
 pub mod Configured
 pub mod Custom
+pub mod Default
 pub mod Opening
 pub mod Promises

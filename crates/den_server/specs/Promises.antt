@@ -1,5 +1,5 @@
 -- What a run promises, of the disk, the link and the clock that it is lent, as they are at entry and at its end.
-use Rattle.std.specs.Prelude.{◌≡◌, ◌⊎◌, ◌<◌, ◌+◌, ◌-◌, ℕ, List, Option, Some, None, Ok, IsTrue, length}
+use Rattle.std.specs.Prelude.{◌≡◌, ◌⊎◌, ◌<◌, ◌+◌, ◌-◌, ℕ, List, Option, Some, None, Result, Ok, Err, IsTrue, IsOk, OnOk, IfErr, length}
 use Rattle.den_disk.specs.declared.clock.Clock.{Ghosts as Clocks}
 use Rattle.den_disk.specs.declared.disk.Disk.{Ghosts as Disks}
 use Rattle.den_disk.specs.declared.link.Link.{Ghosts as Links}
@@ -9,6 +9,7 @@ use Rattle.den_disk.specs.Files.{Files}
 use Rattle.den_disk.specs.Goes.{Rose, IsPrefix, DiskGoesOn, LinkGoesOn, ClockGoesOn, added}
 use Rattle.den_codec.specs.declared.config.RaftNodeConfig.{RaftNodeConfig}
 use Rattle.den_codec.specs.declared.error.Error.{Error}
+use Rattle.den_codec.specs.declared.error.Error.TheVariants.{OutOfMemory}
 use Rattle.den_codec.specs.Standard.{running_of}
 use Rattle.den_model.specs.Crash.{IsServed, Stands, Survives, bytes_of}
 use Rattle.den_model.specs.Crash.{Tells}
@@ -24,7 +25,7 @@ use Rattle.den_state.specs.Stored.{Stored, nothing_stored, stored_from}
 use Rattle.den_core.specs.Full.{IsReached, IsStepTooShort}
 use Rattle.den_core.specs.Making.{GivesShortLog}
 use Rattle.den_core.specs.Spared.{SparesFamily}
-use Rattle.den_server.specs.Causes.{IsCatchUpTooShort, IsMuch, IsRunRefusal}
+use Rattle.den_server.specs.Causes.{IsCatchUpTooShort, IsMuch, IsRunRefusal, IsTurnedAway}
 use Rattle.den_server.specs.Opening.{IsUnwritten, SurvivesOpening, refusal_in}
 
 -- What a configuration makes of a run: the run's part of what it begins with, the longest body of a frame, and how many
@@ -142,3 +143,31 @@ module _ {D L : Type 0} (disk : Disks D) (link : Links L) (config : RunConfig) (
   Completes served memory = DiskTells disk old → IsTrue (link.tells from) → refused_for config (disk.content old).reading ≡ None
       → (Faulted disk old new → ⊥) → (Rose (link.faults from) (link.faults to) → ⊥)
       → (IsMuch (disk.kind old).limit (files_size (disk.content old).reading + length (link.left from)) → ⊥) → served ⊎ memory
+
+module _ {D L C : Type 0} (disk : Disks D) (link : Links L) (clock : Clocks C) where
+  -- All that is promised of a run, of what it was lent, as it was at entry and is at its end, and of its answer.
+  pub record Runs (config : RunConfig) (old new : D) (from to : L) (before after : C) (answer : Result (Unit {0}) Error) : Type 0 where
+    -- At Ok the input was read to its end, one reading was taken at opening and one for each frame, exactly the plan's
+    -- output was sent, and each image of the disk stands for the plan's end, with the plan's entries in the log.
+    pub served : OnOk answer (Served disk link clock config old new from to before after)
+    -- At Ok the log that the files give holds no more entries than the configuration allows.
+    pub short : OnOk answer (KeepsLogShort disk link clock config old new from to before after)
+    -- At Ok fewer than 1,000 records follow the last Begin region of the map's journal.
+    pub state_short : OnOk answer (KeepsTailShort disk link clock config old new from to before after)
+    -- At every exit what was sent is a front of the plan's output.
+    pub prefix : SendsPrefix disk link clock config old new from to before after
+    -- Where each image at entry stands for one durable part: at every exit, and after a crash at any moment, inside a
+    -- call too, the disk stands for the state after a prefix of the plan that holds each step of which a byte was sent.
+    pub any_moment : SurvivesCrash disk link clock config old new from to before after
+    -- Where writes are pending at entry: until the first sync that succeeds a crash leaves what it could leave at entry,
+    -- and nothing is sent; from then on the same holds of what was read at entry.
+    pub opening : SurvivesPending disk link clock config old new from to before after (IsOk answer)
+    -- Each other answer has its cause: files are refused for what they are refused for, and for nothing else; the disk
+    -- is told to be full only with a room, in whole chunks, that is above its limit and that one of its slots would need
+    -- for a payload that was to be written then: of the plan's next step, or of the entries that the map lacked at
+    -- opening; and only where the bytes of its regions at entry and those taken from the link are much.
+    pub refused : IfErr answer (EndsEarly disk link clock config old new from to before after)
+    -- Files that are to be refused are: nothing is written, read, sent or timed.
+    pub turned_away : TurnsAway disk config (λ e. IsTurnedAway e answer) old new from to before after
+    -- Files that are not refused and an input, neither of them much, are served, but for faults and want of memory.
+    pub complete : Completes disk link config old new from to (answer ≡ Ok tt) (answer ≡ Err OutOfMemory)

@@ -16,6 +16,7 @@
 
 mod configured;
 mod custom;
+mod default;
 mod folder;
 mod standalone;
 

@@ -1,4 +1,4 @@
-use Rattle.std.proofs.Common.{ℕ, Option, IsTrue, arith, ◌-◌, length, inl, inr, refl, sym, subst, ap, ◌∙◌}
+use Rattle.std.proofs.Common.{ℕ, Option, Result, Err, IsOk, IfErr, IsTrue, arith, ◌-◌, length, inl, inr, refl, sym, subst, ap, ◌∙◌}
 use Rattle.std.proofs.lemmas.Result.{on_ok_weaker}
 use Rattle.den_disk.specs.Goes.{Rose, added}
 use Rattle.den_model.specs.Crash.{Tells, Survives, IsServed, bytes_of}
@@ -27,7 +27,7 @@ use Rattle.den_codec.specs.declared.error.Error.{Error}
 use Rattle.den_disk.specs.Files.{Files, Kind}
 use Rattle.den_server.specs.Opening.{refusal_in, held_weight}
 use Rattle.den_server.proofs.Ended.{rose_then, opening_ended, serving_ended, away, refused_not_read, completed}
-use Rattle.den_server.specs.Promises.{IsRunTooShort, run_config}
+use Rattle.den_server.specs.Promises.{IsRunTooShort, EndsEarly, SurvivesPending, run_config}
 use Rattle.den_server.proofs.Promised.{sends_prefix, survives_all_along, disk_alone}
 use Rattle.den_server.proofs.Refused.{if_err_two}
 use Rattle.den_server.proofs.Surviving.{of_node, opening_then, no_reading, served_from, log_same, reached_from}
@@ -42,25 +42,18 @@ refusal_of n files = refusal_in n.raft.lease.enabled files
 
 -- ---- the opening was refused
 
-pub returns-in-Err-clause-opening : goal.returns-in-Err-clause-opening
-returns-in-Err-clause-opening g c = λ kept told stands.
+pub returns-in-Err-clause-runs : goal.returns-in-Err-clause-runs
+returns-in-Err-clause-runs g c =
+    let none : Result (Unit {0}) Error = Err c.in-Err.error in
+    let pending : SurvivesPending g.D.Disk g.L.Link g.C.Clock (run_config c.args.config.now.node) c.args.disk.now c.open_folder.new.disk c.args.link.now c.args.link.now c.args.clock.now c.args.clock.now (IsOk none) =
+    λ kept told stands.
     let D = g.D.Disk in
     let first = c.args.disk.now in
     let last = c.open_folder.new.disk in
     no_reading durable_in (D.images first) (D.images last) (D.moment first) (D.moment last) _ _ (g.L.Link.sent c.args.link.now) (entered c.args.config.now.node kept)
     c.args.config.now.node.network.max_frame_size (g.L.Link.left c.args.link.now) (g.C.Clock.readings c.args.clock.now)
-    (of_node durable_in (D.images first) (D.images last) (D.moment first) (D.moment last) _ _ _ _ kept c.node.ensures (c.in-Err.ensures.opening kept told.disk_tells stands))
-
-pub returns-in-Err-clause-any_moment : goal.returns-in-Err-clause-any_moment
-returns-in-Err-clause-any_moment g c = survives_all_along g.D.Disk g.L.Link g.C.Clock (run_config c.args.config.now.node) c.args.disk.now c.open_folder.new.disk c.args.link.now c.args.link.now c.args.clock.now c.args.clock.now _
-    (λ files. g.met.D.Disk.images_now c.args.disk.now files) (returns-in-Err-clause-opening g c)
-
-pub returns-in-Err-clause-prefix : goal.returns-in-Err-clause-prefix
-returns-in-Err-clause-prefix g c = sends_prefix g.D.Disk g.L.Link g.C.Clock (run_config c.args.config.now.node) c.args.disk.now c.open_folder.new.disk c.args.link.now c.args.link.now c.args.clock.now c.args.clock.now _
-    c.open_folder.ensures.disk.same (λ files. g.met.D.Disk.images_now c.open_folder.new.disk files) (returns-in-Err-clause-opening g c)
-
-pub returns-in-Err-clause-refused : goal.returns-in-Err-clause-refused
-returns-in-Err-clause-refused g c =
+    (of_node durable_in (D.images first) (D.images last) (D.moment first) (D.moment last) _ _ _ _ kept c.node.ensures (c.in-Err.ensures.opening kept told.disk_tells stands)) in
+    let early : IfErr none (EndsEarly g.D.Disk g.L.Link g.C.Clock (run_config c.args.config.now.node) c.args.disk.now c.open_folder.new.disk c.args.link.now c.args.link.now c.args.clock.now c.args.clock.now) =
     let D = g.D.Disk in
     let L = g.L.Link in
     let first = c.args.disk.now in
@@ -71,13 +64,30 @@ returns-in-Err-clause-refused g c =
     (D.kind first).limit (files_size (D.content first).reading) (L.taken c.args.link.now - L.taken c.args.link.now) c.in-Err.error
     (λ needed le short. inl (record { log = short.log; map = short.map; log_read = short.log_read; map_read = short.map_read; short = same_short _ _ _ needed _ le short.short }))
     (subst (λ (n : RaftNodeConfig). IsRunRefusal (Rose (D.faults first) (D.faults c.open_folder.new.disk)) ⊥ (IsTrue (D.kind first).tells) (refusal_of n (D.content first).reading) short
-    (D.kind first).limit (files_size (D.content first).reading) 0 c.in-Err.error) c.node.ensures c.in-Err.ensures.refused)
-
-pub returns-in-Err-clause-turned_away : goal.returns-in-Err-clause-turned_away
-returns-in-Err-clause-turned_away g c = λ e told is.
-    let reading = (g.D.Disk.content c.args.disk.now).reading in
-    let here = ap (λ (n : RaftNodeConfig). refusal_of n reading) c.node.ensures ∙ is in
-    ((record {}, away _ _ (refusal_of c.node.result.now reading) _ _ _ e c.in-Err.error told here c.in-Err.ensures.refused), c.open_folder.ensures.untouched e told here, refl, refl)
+    (D.kind first).limit (files_size (D.content first).reading) 0 c.in-Err.error) c.node.ensures c.in-Err.ensures.refused) in
+    record {
+      served = record {};
+      short = record {};
+      state_short = record {};
+      prefix = sends_prefix g.D.Disk g.L.Link g.C.Clock (run_config c.args.config.now.node) c.args.disk.now c.open_folder.new.disk c.args.link.now c.args.link.now c.args.clock.now c.args.clock.now _
+          c.open_folder.ensures.disk.same (λ files. g.met.D.Disk.images_now c.open_folder.new.disk files) pending;
+      any_moment = survives_all_along g.D.Disk g.L.Link g.C.Clock (run_config c.args.config.now.node) c.args.disk.now c.open_folder.new.disk c.args.link.now c.args.link.now c.args.clock.now c.args.clock.now _
+          (λ files. g.met.D.Disk.images_now c.args.disk.now files) pending;
+      opening = pending;
+      refused = early;
+      turned_away = λ e told is.
+          let reading = (g.D.Disk.content c.args.disk.now).reading in
+          let here = ap (λ (n : RaftNodeConfig). refusal_of n reading) c.node.ensures ∙ is in
+          ((record {}, away _ _ (refusal_of c.node.result.now reading) _ _ _ e c.in-Err.error told here c.in-Err.ensures.refused), c.open_folder.ensures.untouched e told here, refl, refl);
+      complete = λ told link_tells unrefused disk link small.
+          let D = g.D.Disk in
+          let L = g.L.Link in
+          let first = c.args.disk.now in
+          completed (Rose (D.faults first) (D.faults c.open_folder.new.disk)) (Rose (L.faults c.args.link.now) (L.faults c.args.link.now)) (IsTrue (D.kind first).tells) (refusal_of c.args.config.now.node (D.content first).reading)
+          (IsRunTooShort D L g.C.Clock (run_config c.args.config.now.node) first c.open_folder.new.disk c.args.link.now c.args.link.now c.args.clock.now c.args.clock.now)
+          (D.kind first).limit (files_size (D.content first).reading) (L.taken c.args.link.now - L.taken c.args.link.now) (length (L.left c.args.link.now)) none told unrefused disk link
+          (omega arith) small early;
+    }
 
 pub returns-in-Err-clause-goes_on : goal.returns-in-Err-clause-goes_on
 returns-in-Err-clause-goes_on g c =
@@ -85,8 +95,10 @@ returns-in-Err-clause-goes_on g c =
 
 -- ---- the run
 
-pub returns-clause-opening : goal.returns-clause-opening
-returns-clause-opening g c = λ kept told stands.
+pub returns-clause-runs : goal.returns-clause-runs
+returns-clause-runs g c =
+    let pending : SurvivesPending g.D.Disk g.L.Link g.C.Clock (run_config c.args.config.now.node) c.args.disk.now c.run_from.new.disk c.args.link.now c.run_from.new.link c.args.clock.now c.run_from.new.clock (IsOk c.run_from.result) =
+    λ kept told stands.
     let D = g.D.Disk in
     let first = c.args.disk.now in
     let opened = c.open_folder.new.disk in
@@ -106,35 +118,9 @@ returns-clause-opening g c = λ kept told stands.
     (subst (λ (n : RaftNodeConfig). Survives durable_in (D.images last) (D.moment opened) (D.moment last)
     sent (kv_of ((meta_shown c.in-Ok.engine.meta).value) (state_map c.in-Ok.engine.state) c.in-Ok.engine.running)
     (plan_over (kv_of ((meta_shown c.in-Ok.engine.meta).value) (state_map c.in-Ok.engine.state) c.in-Ok.engine.running) n.network.max_frame_size (g.L.Link.left c.args.link.now) readings))
-    c.node-2.ensures (c.run_from.ensures.any_moment here (tt, tt, tt)))
-
-pub returns-clause-any_moment : goal.returns-clause-any_moment
-returns-clause-any_moment g c = survives_all_along g.D.Disk g.L.Link g.C.Clock (run_config c.args.config.now.node) c.args.disk.now c.run_from.new.disk c.args.link.now c.run_from.new.link c.args.clock.now c.run_from.new.clock _
-    (λ files. g.met.D.Disk.images_now c.args.disk.now files) (returns-clause-opening g c)
-
-pub returns-clause-prefix : goal.returns-clause-prefix
-returns-clause-prefix g c = sends_prefix g.D.Disk g.L.Link g.C.Clock (run_config c.args.config.now.node) c.args.disk.now c.run_from.new.disk c.args.link.now c.run_from.new.link c.args.clock.now c.run_from.new.clock _
-    (c.run_from.ensures.serves.goes_on.same ∙ c.open_folder.ensures.disk.same) (λ files. g.met.D.Disk.images_now c.run_from.new.disk files) (returns-clause-opening g c)
-
-pub returns-clause-served : goal.returns-clause-served
-returns-clause-served g c = on_ok_weaker c.run_from.result (λ served kept log told stands read.
-    let D = g.D.Disk in
-    let opened_tells : IsTrue (D.kind c.open_folder.new.disk).tells = subst (λ (k : Kind). IsTrue k.tells) (sym c.open_folder.ensures.disk.same) told.disk_tells in
-    let here : Tells (D.kind c.open_folder.new.disk).tells (g.L.Link.tells c.args.link.now) (g.C.Clock.tells c.run_from.new.clock) =
-    record { disk_tells = opened_tells; link_tells = told.link_tells; clock_tells = told.clock_tells } in
-    let readings = added (g.C.Clock.readings c.args.clock.now) (g.C.Clock.readings c.run_from.new.clock) in
-    served_from (λ files. ok (log_in files)) (D.images c.run_from.new.disk) _ _ _ _ _ (entered c.args.config.now.node kept) _ log _
-    (λ (k : Kv). plan_over k c.args.config.now.node.network.max_frame_size (g.L.Link.left c.args.link.now) readings)
-    (c.in-Ok.ensures.kv kept told.disk_tells stands ∙ ap (λ (n : RaftNodeConfig). entered n kept) c.node.ensures)
-    (log_same (log_in (D.content c.args.disk.now).reading) _ log (c.in-Ok.ensures.log told.disk_tells) read)
-    (subst (λ (n : RaftNodeConfig). IsServed durable_in (λ files. ok (log_in files)) (D.images c.run_from.new.disk) (D.moment c.run_from.new.disk) (g.L.Link.left c.run_from.new.link) (length readings)
-    (length (frames n.network.max_frame_size (g.L.Link.left c.args.link.now)))
-    (added (g.L.Link.sent c.args.link.now) (g.L.Link.sent c.run_from.new.link)) (kv_of (meta_shown c.in-Ok.engine.meta).value (state_map c.in-Ok.engine.state) c.in-Ok.engine.running) (log_shown c.in-Ok.engine.log).value
-    (plan_over (kv_of (meta_shown c.in-Ok.engine.meta).value (state_map c.in-Ok.engine.state) c.in-Ok.engine.running) n.network.max_frame_size (g.L.Link.left c.args.link.now) readings))
-    c.node-2.ensures (served here (tt, tt, tt)))) c.run_from.ensures.served
-
-pub returns-clause-refused : goal.returns-clause-refused
-returns-clause-refused g c = if_err_two c.run_from.result _ _ _
+    c.node-2.ensures (c.run_from.ensures.any_moment here (tt, tt, tt))) in
+    let early : IfErr c.run_from.result (EndsEarly g.D.Disk g.L.Link g.C.Clock (run_config c.args.config.now.node) c.args.disk.now c.run_from.new.disk c.args.link.now c.run_from.new.link c.args.clock.now c.run_from.new.clock) =
+    if_err_two c.run_from.result _ _ _
     (λ e h full.
     let D = g.D.Disk in
     let L = g.L.Link in
@@ -166,22 +152,57 @@ returns-clause-refused g c = if_err_two c.run_from.result _ _ _
     (λ told. sym (ap (λ (n : RaftNodeConfig). refusal_of n (D.content c.args.disk.now).reading) c.node.ensures) ∙ c.in-Ok.ensures.accepted told) (λ told. c.in-Ok.ensures.weight told)
     (subst (λ (k : Kind). IsServeRefusal rose link_rose k.limit e) c.open_folder.ensures.disk.same h)
     (subst (λ (k : Kind). IsFullBy (IsTrue k.tells × (Unit {0} × Unit {0} × Unit {0})) slot k.limit (run_weight weight taken) e) c.open_folder.ensures.disk.same full))
-    c.run_from.ensures.serves.refused c.run_from.ensures.serves.full
-
-pub returns-clause-turned_away : goal.returns-clause-turned_away
-returns-clause-turned_away g c = λ e told is.
-    let reading = (g.D.Disk.content c.args.disk.now).reading in
-    absurd (refused_not_read (refusal_of c.node.result.now reading) e (c.in-Ok.ensures.accepted told) (ap (λ (n : RaftNodeConfig). refusal_of n reading) c.node.ensures ∙ is))
-
-pub returns-clause-complete : goal.returns-clause-complete
-returns-clause-complete g c = λ told link_tells unrefused disk link small.
-    let D = g.D.Disk in
-    let L = g.L.Link in
-    let first = c.args.disk.now in
-    completed (Rose (D.faults first) (D.faults c.run_from.new.disk)) (Rose (L.faults c.args.link.now) (L.faults c.run_from.new.link)) (IsTrue (D.kind first).tells) (refusal_of c.args.config.now.node (D.content first).reading)
-    (IsRunTooShort D L g.C.Clock (run_config c.args.config.now.node) first c.run_from.new.disk c.args.link.now c.run_from.new.link c.args.clock.now c.run_from.new.clock)
-    (D.kind first).limit (files_size (D.content first).reading) (L.taken c.run_from.new.link - L.taken c.args.link.now) (length (L.left c.args.link.now)) c.run_from.result told unrefused disk link
-    (omega (arith, c.run_from.ensures.counted link_tells)) small (returns-clause-refused g c)
+    c.run_from.ensures.serves.refused c.run_from.ensures.serves.full in
+    record {
+      served = on_ok_weaker c.run_from.result (λ served kept log told stands read.
+          let D = g.D.Disk in
+          let opened_tells : IsTrue (D.kind c.open_folder.new.disk).tells = subst (λ (k : Kind). IsTrue k.tells) (sym c.open_folder.ensures.disk.same) told.disk_tells in
+          let here : Tells (D.kind c.open_folder.new.disk).tells (g.L.Link.tells c.args.link.now) (g.C.Clock.tells c.run_from.new.clock) =
+          record { disk_tells = opened_tells; link_tells = told.link_tells; clock_tells = told.clock_tells } in
+          let readings = added (g.C.Clock.readings c.args.clock.now) (g.C.Clock.readings c.run_from.new.clock) in
+          served_from (λ files. ok (log_in files)) (D.images c.run_from.new.disk) _ _ _ _ _ (entered c.args.config.now.node kept) _ log _
+          (λ (k : Kv). plan_over k c.args.config.now.node.network.max_frame_size (g.L.Link.left c.args.link.now) readings)
+          (c.in-Ok.ensures.kv kept told.disk_tells stands ∙ ap (λ (n : RaftNodeConfig). entered n kept) c.node.ensures)
+          (log_same (log_in (D.content c.args.disk.now).reading) _ log (c.in-Ok.ensures.log told.disk_tells) read)
+          (subst (λ (n : RaftNodeConfig). IsServed durable_in (λ files. ok (log_in files)) (D.images c.run_from.new.disk) (D.moment c.run_from.new.disk) (g.L.Link.left c.run_from.new.link) (length readings)
+          (length (frames n.network.max_frame_size (g.L.Link.left c.args.link.now)))
+          (added (g.L.Link.sent c.args.link.now) (g.L.Link.sent c.run_from.new.link)) (kv_of (meta_shown c.in-Ok.engine.meta).value (state_map c.in-Ok.engine.state) c.in-Ok.engine.running) (log_shown c.in-Ok.engine.log).value
+          (plan_over (kv_of (meta_shown c.in-Ok.engine.meta).value (state_map c.in-Ok.engine.state) c.in-Ok.engine.running) n.network.max_frame_size (g.L.Link.left c.args.link.now) readings))
+          c.node-2.ensures (served here (tt, tt, tt)))) c.run_from.ensures.served;
+      short = on_ok_weaker c.run_from.result (λ short told.
+          let D = g.D.Disk in
+          let last = c.run_from.new.disk in
+          let opened_tells : IsTrue (D.kind c.open_folder.new.disk).tells = subst (λ (k : Kind). IsTrue k.tells) (sym c.open_folder.ensures.disk.same) told in
+          subst (λ n. GivesShortLog (λ files. ok (log_in files)) (D.images last) (D.moment last) n) (c.in-Ok.ensures.most ∙ ap (λ (n : RaftNodeConfig). n.raft.max_log_entries) c.node.ensures)
+          (short (inl c.in-Ok.ensures.leads) opened_tells (tt, tt, tt))) c.run_from.ensures.short;
+      state_short = on_ok_three c.run_from.result (λ short ready rests told files at.
+          let D = g.D.Disk in
+          let last = c.run_from.new.disk in
+          let state = c.run_from.new.stepper.state in
+          let opened_tells : IsTrue (D.kind c.open_folder.new.disk).tells = subst (λ (k : Kind). IsTrue k.tells) (sym c.open_folder.ensures.disk.same) told in
+          let last_tells : IsTrue (D.kind last).tells = subst (λ (k : Kind). IsTrue k.tells) (sym c.run_from.ensures.serves.goes_on.same) opened_tells in (
+            stored_of state,
+            gives_hold State (stored_from nothing_stored) state.journal.gate (stored_of state) (D.content last) files (rests opened_tells).state.rests ((g.met.D.Disk.images_now last files last_tells).0 at),
+            short c.in-Ok.ensures.leads,
+          )) c.run_from.ensures.state_short c.run_from.ensures.serves.ready c.run_from.ensures.serves.rests;
+      prefix = sends_prefix g.D.Disk g.L.Link g.C.Clock (run_config c.args.config.now.node) c.args.disk.now c.run_from.new.disk c.args.link.now c.run_from.new.link c.args.clock.now c.run_from.new.clock _
+          (c.run_from.ensures.serves.goes_on.same ∙ c.open_folder.ensures.disk.same) (λ files. g.met.D.Disk.images_now c.run_from.new.disk files) pending;
+      any_moment = survives_all_along g.D.Disk g.L.Link g.C.Clock (run_config c.args.config.now.node) c.args.disk.now c.run_from.new.disk c.args.link.now c.run_from.new.link c.args.clock.now c.run_from.new.clock _
+          (λ files. g.met.D.Disk.images_now c.args.disk.now files) pending;
+      opening = pending;
+      refused = early;
+      turned_away = λ e told is.
+          let reading = (g.D.Disk.content c.args.disk.now).reading in
+          absurd (refused_not_read (refusal_of c.node.result.now reading) e (c.in-Ok.ensures.accepted told) (ap (λ (n : RaftNodeConfig). refusal_of n reading) c.node.ensures ∙ is));
+      complete = λ told link_tells unrefused disk link small.
+          let D = g.D.Disk in
+          let L = g.L.Link in
+          let first = c.args.disk.now in
+          completed (Rose (D.faults first) (D.faults c.run_from.new.disk)) (Rose (L.faults c.args.link.now) (L.faults c.run_from.new.link)) (IsTrue (D.kind first).tells) (refusal_of c.args.config.now.node (D.content first).reading)
+          (IsRunTooShort D L g.C.Clock (run_config c.args.config.now.node) first c.run_from.new.disk c.args.link.now c.run_from.new.link c.args.clock.now c.run_from.new.clock)
+          (D.kind first).limit (files_size (D.content first).reading) (L.taken c.run_from.new.link - L.taken c.args.link.now) (length (L.left c.args.link.now)) c.run_from.result told unrefused disk link
+          (omega (arith, c.run_from.ensures.counted link_tells)) small early;
+    }
 
 pub returns-clause-goes_on : goal.returns-clause-goes_on
 returns-clause-goes_on g c = record {
@@ -191,23 +212,3 @@ returns-clause-goes_on g c = record {
   snapshot = spares_twice g.D.Disk.kind g.D.Disk.content g.D.Disk.moment g.D.Disk.images g.D.Disk.faults snapshot_family c.args.disk.now c.open_folder.new.disk c.run_from.new.disk
       c.open_folder.ensures.disk c.run_from.ensures.serves.goes_on c.in-Ok.ensures.snapshot c.run_from.ensures.serves.snapshot;
 }
-
-pub returns-clause-short : goal.returns-clause-short
-returns-clause-short g c = on_ok_weaker c.run_from.result (λ short told.
-    let D = g.D.Disk in
-    let last = c.run_from.new.disk in
-    let opened_tells : IsTrue (D.kind c.open_folder.new.disk).tells = subst (λ (k : Kind). IsTrue k.tells) (sym c.open_folder.ensures.disk.same) told in
-    subst (λ n. GivesShortLog (λ files. ok (log_in files)) (D.images last) (D.moment last) n) (c.in-Ok.ensures.most ∙ ap (λ (n : RaftNodeConfig). n.raft.max_log_entries) c.node.ensures)
-    (short (inl c.in-Ok.ensures.leads) opened_tells (tt, tt, tt))) c.run_from.ensures.short
-
-pub returns-clause-state_short : goal.returns-clause-state_short
-returns-clause-state_short g c = on_ok_three c.run_from.result (λ short ready rests told files at.
-    let D = g.D.Disk in
-    let last = c.run_from.new.disk in
-    let state = c.run_from.new.stepper.state in
-    let opened_tells : IsTrue (D.kind c.open_folder.new.disk).tells = subst (λ (k : Kind). IsTrue k.tells) (sym c.open_folder.ensures.disk.same) told in
-    let last_tells : IsTrue (D.kind last).tells = subst (λ (k : Kind). IsTrue k.tells) (sym c.run_from.ensures.serves.goes_on.same) opened_tells in (
-      stored_of state,
-      gives_hold State (stored_from nothing_stored) state.journal.gate (stored_of state) (D.content last) files (rests opened_tells).state.rests ((g.met.D.Disk.images_now last files last_tells).0 at),
-      short c.in-Ok.ensures.leads,
-    )) c.run_from.ensures.state_short c.run_from.ensures.serves.ready c.run_from.ensures.serves.rests
