@@ -1,3 +1,4 @@
+pub mod Few
 pub mod Numbers
 pub mod Read
 pub mod Worked

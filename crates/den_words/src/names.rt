@@ -1,5 +1,5 @@
 //! What the words name.
-ghost use Rattle.std.specs.Prelude.{◌≡◌, IfOk, map, option_map, string_bytes};
+ghost use Rattle.std.specs.Prelude.{◌≡◌, ◌≤◌, IfOk, IfSome, map, option_map, string_bytes};
 ghost use Rattle.den_words.specs.Numbers.{given_number};
 ghost use Rattle.den_words.specs.Words.{named, named_of, names_in};
 
@@ -81,7 +81,8 @@ fn named(
 /// What the words after the program's name name, or None exactly where they do not parse. Want of memory is the only
 /// error.
 pub fn names_of(alloc: Global, words: &[String]) -> Result<Option<Names>, AllocError>
-    ensures { IfOk result (λ names. option_map named_of names ≡ names_in (map string_bytes words.now)) }
+    ensures names { IfOk result (λ names. option_map named_of names ≡ names_in (map string_bytes words.now)) }
+    ensures few { IfOk result (λ names. IfSome names (λ n. IfSome n.drive (λ count. count ≤ 1000000))) }
 {
     match command(alloc)?.try_get_matches_from(words) {
         Ok(matches) => named(
