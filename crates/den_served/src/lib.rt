@@ -7,6 +7,8 @@
 #[cfg(test)]
 mod configured;
 #[cfg(test)]
+mod drives;
+#[cfg(test)]
 mod forty;
 #[cfg(test)]
 mod leased;
