@@ -2,7 +2,7 @@
 use Rattle.std.proofs.Common.{◌≡◌, ℕ, Bool, IsTrue, List, ◌++◌, length, drop, refl, sym, ◌∙◌, ap, subst, append_assoc, arith}
 use Rattle.std.proofs.lemmas.List.{drop_at}
 use Rattle.den_disk.specs.Goes.{Extends, SinkGoesOn, added}
-use Rattle.den_program.specs.Status.{IsWrittenFront}
+use Rattle.den_serving.specs.Status.{IsWrittenFront}
 
 -- it ended with a first piece
 pub front_stop : (a b old new : List ℕ) → IsWrittenFront a old new → IsWrittenFront (a ++ b) old new

@@ -1,6 +1,8 @@
 -- The program's exit status, and the line that goes with it.
 use Rattle.std.specs.Prelude.{◌≡◌, ◌++◌, ◌==◌, ℕ, List, [], codes, decimal, Option, Some, None, Result, Ok, Err, if◌then◌else◌}
 use Rattle.den_disk.specs.Goes.{IsPrefix}
+use Rattle.den_codec.specs.ConfigPlaces.{key}
+use Rattle.den_codec.specs.declared.config_place.ConfigPlace.{ConfigPlace}
 use Rattle.den_codec.specs.declared.error.Error.{Error}
 use Rattle.den_codec.specs.declared.error.Error.TheVariants.{OutOfMemory, StorageIoError, DiskFull, LinkFault, DataCorruption, FeatureNotEnabled, ProposeFailed, UnorderedChunk, Config, ConfigFault, StateMachineError}
 
@@ -13,8 +15,8 @@ status_of_error (DataCorruption place offset) = 8
 status_of_error FeatureNotEnabled = 9
 status_of_error ProposeFailed = 10
 status_of_error (UnorderedChunk index) = 1
-status_of_error (Config place) = 1
-status_of_error ConfigFault = 1
+status_of_error (Config place) = 3
+status_of_error ConfigFault = 4
 status_of_error StateMachineError = 1
 
 -- the status of a run's answer, or of words that do not parse
@@ -49,6 +51,10 @@ corruption_end offset = codes " at " ++ decimal offset ++ codes "\n"
 abbrev pub corruption_line : (place offset : ℕ) → List ℕ
 corruption_line place offset = corruption_front place ++ corruption_end offset
 
+-- the line of a configuration that is refused at a key
+unfoldable pub key_line : ConfigPlace → List ℕ
+key_line place = codes "den_server: bad configuration at " ++ key place ++ codes "\n"
+
 abbrev pub line_of_error : Error → List ℕ
 line_of_error OutOfMemory = codes "den_server: out of memory\n"
 line_of_error StorageIoError = codes "den_server: storage fault\n"
@@ -58,8 +64,8 @@ line_of_error (DataCorruption place offset) = corruption_line place offset
 line_of_error FeatureNotEnabled = codes "den_server: lease is not enabled\n"
 line_of_error ProposeFailed = codes "den_server: term or index exhausted\n"
 line_of_error (UnorderedChunk index) = codes "den_server: out of memory\n"
-line_of_error (Config place) = codes "den_server: out of memory\n"
-line_of_error ConfigFault = codes "den_server: out of memory\n"
+line_of_error (Config place) = key_line place
+line_of_error ConfigFault = codes "den_server: configuration cannot be read\n"
 line_of_error StateMachineError = codes "den_server: out of memory\n"
 
 -- the line of a run's answer, or of words that do not parse; empty where all went well
@@ -68,20 +74,7 @@ line_of None = codes "den_server: usage: den_server FOLDER [--config FILE] [--li
 line_of (Some (Ok done)) = []
 line_of (Some (Err e)) = line_of_error e
 
--- the line of a status, that of 8 with this file and place
-abbrev pub status_line : (status place offset : ℕ) → List ℕ
-status_line status place offset =
-    if status == 0 then []
-    else if status == 2 then codes "den_server: usage: den_server FOLDER [--config FILE] [--listen PORT] [--drive N]\n"
-    else if status == 5 then codes "den_server: storage fault\n"
-    else if status == 6 then codes "den_server: link fault\n"
-    else if status == 7 then codes "den_server: disk limit reached\n"
-    else if status == 8 then corruption_line place offset
-    else if status == 9 then codes "den_server: lease is not enabled\n"
-    else if status == 10 then codes "den_server: term or index exhausted\n"
-    else codes "den_server: out of memory\n"
-
--- an error whose line names no file
+-- an error whose line names neither a file nor a key
 abbrev pub IsFixed : Error → Type 0
 IsFixed (DataCorruption place offset) = ⊥
 IsFixed OutOfMemory = Unit {0}
@@ -91,7 +84,7 @@ IsFixed LinkFault = Unit {0}
 IsFixed FeatureNotEnabled = Unit {0}
 IsFixed ProposeFailed = Unit {0}
 IsFixed (UnorderedChunk index) = Unit {0}
-IsFixed (Config place) = Unit {0}
+IsFixed (Config place) = ⊥
 IsFixed ConfigFault = Unit {0}
 IsFixed StateMachineError = Unit {0}
 

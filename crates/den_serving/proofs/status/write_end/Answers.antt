@@ -1,8 +1,8 @@
 use Rattle.std.proofs.Common.{IsTrue, ◌≡◌, ◌++◌, ◌<◌, List, ℕ, codes, decimal, length, sym, subst, ap, ◌∙◌}
 use Rattle.std.proofs.lemmas.Fmt.{decimal_nonempty}
-use Rattle.den_program.specs.Status.{corruption_end}
-use Rattle.den_program.proofs.Lines.{front_stop, front_then}
-use Rattle.den_program.proofs.status.write_end.Goals as goal
+use Rattle.den_serving.specs.Status.{corruption_end}
+use Rattle.den_serving.proofs.Lines.{front_stop, front_then}
+use Rattle.den_serving.proofs.status.write_end.Goals as goal
 
 pub write_on-requires-2 : goal.write_on-requires-2
 write_on-requires-2 g c =

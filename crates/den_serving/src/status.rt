@@ -1,9 +1,10 @@
 //! The exit status, and the line that goes with it.
 ghost use Rattle.std.specs.Prelude.{◌≡◌, ◌++◌, ◌<◌, IsTrue, IsErr, OnOk, length};
 ghost use Rattle.den_disk.specs.Goes.{Rose, HasCause, SinkGoesOn};
-ghost use Rattle.den_program.specs.Status.{status_of, status_of_error, file_name, corruption_front, corruption_end, corruption_line, line_of, line_of_error, IsFixed, IsWrittenFront};
+ghost use Rattle.den_codec.specs.ConfigPlaces.{key};
+ghost use Rattle.den_serving.specs.Status.{status_of, status_of_error, file_name, corruption_front, corruption_end, corruption_line, key_line, line_of, line_of_error, IsFixed, IsWrittenFront};
 
-use den_codec::Error;
+use den_codec::{ConfigPlace, Error};
 use den_disk::{Sink, SinkFault};
 use itoa::Buffer;
 
@@ -24,10 +25,9 @@ fn status_of_error(error: Error) -> u8
         Error::DataCorruption { .. } => 8,
         Error::FeatureNotEnabled => 9,
         Error::ProposeFailed => 10,
-        Error::UnorderedChunk { .. }
-        | Error::Config(_)
-        | Error::ConfigFault
-        | Error::StateMachineError => 1,
+        Error::Config(_) => 3,
+        Error::ConfigFault => 4,
+        Error::UnorderedChunk { .. } | Error::StateMachineError => 1,
     }
 }
 
@@ -64,7 +64,7 @@ fn file_name(number: u8) -> &'static str
     }
 }
 
-/// The line of an error that names no file.
+/// The line of an error that names neither a file nor a key.
 fn fixed_line(error: Error) -> &'static str
     ensures line { IsFixed error → result.now ≡ line_of_error error }
     ensures some { 0 < length result.now }
@@ -75,11 +75,11 @@ fn fixed_line(error: Error) -> &'static str
         Error::DiskFull { .. } => "den_server: disk limit reached\n",
         Error::FeatureNotEnabled => "den_server: lease is not enabled\n",
         Error::ProposeFailed => "den_server: term or index exhausted\n",
+        Error::ConfigFault => "den_server: configuration cannot be read\n",
         Error::OutOfMemory
         | Error::DataCorruption { .. }
         | Error::UnorderedChunk { .. }
         | Error::Config(_)
-        | Error::ConfigFault
         | Error::StateMachineError => "den_server: out of memory\n",
     }
 }
@@ -132,6 +132,19 @@ fn write_corruption<E: Sink>(errs: &mut E, place: u8, offset: u64) -> Result<(),
     write_end(errs, offset)
 }
 
+/// Writes that a key of the configuration was refused, and which.
+#[tactic(auto, unfolding(crate::specs::Status::key_line))]
+fn write_key<E: Sink>(errs: &mut E, place: ConfigPlace) -> Result<(), SinkFault>
+    ensures errs { SinkGoesOn E.tells E.written E.faults errs.old errs.new }
+    ensures cause { HasCause (E.faults errs.old) (E.faults errs.new) (IsErr result) }
+    ensures all { OnOk result (IsTrue (E.tells errs.old) → E.written errs.new ≡ E.written errs.old ++ key_line place) }
+    ensures front { IsTrue (E.tells errs.old) → IsWrittenFront (key_line place) (E.written errs.old) (E.written errs.new) }
+{
+    write_on(errs, b"den_server: bad configuration at ")?;
+    write_on(errs, place.key().as_bytes())?;
+    write_on(errs, b"\n")
+}
+
 fn write_line<E: Sink>(errs: &mut E, answer: Answer) -> Result<(), SinkFault>
     ensures errs { SinkGoesOn E.tells E.written E.faults errs.old errs.new }
     ensures cause { HasCause (E.faults errs.old) (E.faults errs.new) (IsErr result) }
@@ -141,6 +154,7 @@ fn write_line<E: Sink>(errs: &mut E, answer: Answer) -> Result<(), SinkFault>
     match answer {
         Some(Ok(())) => Ok(()),
         Some(Err(Error::DataCorruption { place, offset })) => write_corruption(errs, place, offset),
+        Some(Err(Error::Config(place))) => write_key(errs, place),
         Some(Err(error)) => write_on(errs, fixed_line(error).as_bytes()),
         None => write_on(errs, USAGE.as_bytes()),
     }

@@ -1,8 +1,8 @@
 use Rattle.std.proofs.Common.{IsTrue, ◌≡◌, ◌++◌, List, ℕ, codes, sym, subst, ap, ◌∙◌}
 use Rattle.std.proofs.lemmas.Result.{on_ok_weaker}
-use Rattle.den_program.specs.Status.{file_name, corruption_front, IsWrittenFront}
-use Rattle.den_program.proofs.Lines.{front_stop, front_then, all_then}
-use Rattle.den_program.proofs.status.write_front.Goals as goal
+use Rattle.den_serving.specs.Status.{file_name, corruption_front, IsWrittenFront}
+use Rattle.den_serving.proofs.Lines.{front_stop, front_then, all_then}
+use Rattle.den_serving.proofs.status.write_front.Goals as goal
 
 pub returns-in_err-write_on-clause-front : goal.returns-in_err-write_on-clause-front
 unfolding corruption_front
