@@ -2,7 +2,7 @@
 """Measures the built server on this machine, beside what the machine itself can do.
 
 Prints durable puts a second one by one, where each waits for its reply, and with all frames sent at once; reads a second in
-the same two ways; how long an opening takes, how large the folder is and how much memory the server took after so many keys;
+the same two ways; both over a connection to a port, one by one and with 64 under way; how long an opening takes, how large the folder is and how much memory the server took after so many keys;
 and the instructions of a put, of a new key and of one that is held, where valgrind is there. In front of them it prints the
 machine's floor: appends of the bytes of a put with one fdatasync each, in the same folder. All that is compared is measured
 in one run, since a disk's speed varies by the hour.
@@ -14,6 +14,7 @@ import argparse
 import os
 import re
 import shutil
+import socket
 import subprocess
 import sys
 import tempfile
@@ -26,6 +27,8 @@ from serving import WRITTEN, frame, put, read
 
 VALUE = b"v" * 16
 ANSWER = frame(WRITTEN)
+# How many requests a client over a port has sent before it reads the first reply.
+UNDER_WAY = 64
 
 
 def key(n):
@@ -89,6 +92,56 @@ class Server:
             stop(f"the server ended with status {self.running.returncode}")
 
 
+class Connection:
+    """A server that listens on a port, and its client."""
+
+    def __init__(self, program, folder):
+        with socket.create_server(("127.0.0.1", 0)) as taken:
+            self.port = taken.getsockname()[1]
+        self.running = subprocess.Popen([program, folder, "--listen", str(self.port)])
+        self.client = self.connected()
+        self.client.setsockopt(socket.IPPROTO_TCP, socket.TCP_NODELAY, 1)
+        self.replies = self.client.makefile("rb")
+
+    def connected(self):
+        """The connection, once the server listens."""
+        while self.running.poll() is None:
+            try:
+                return socket.create_connection(("127.0.0.1", self.port))
+            except ConnectionRefusedError:
+                time.sleep(0.01)
+        return stop(f"the server ended with status {self.running.returncode}")
+
+    def ask(self, sent):
+        """The body of the reply to a frame."""
+        self.client.sendall(sent)
+        return self.reply()
+
+    def reply(self):
+        size = int.from_bytes(self.replies.read(8), "big")
+        body = self.replies.read(size)
+        return body if body else stop("the server ended before it replied")
+
+    def under_way(self, sent, seconds):
+        """Replies a second, where so many frames are under way."""
+        count, started = 0, time.monotonic()
+        self.client.sendall(b"".join(sent(n) for n in range(UNDER_WAY)))
+        while time.monotonic() - started < seconds:
+            self.reply()
+            self.client.sendall(sent(count + UNDER_WAY))
+            count += 1
+        rate = count / (time.monotonic() - started)
+        for _ in range(UNDER_WAY):
+            self.reply()
+        return rate
+
+    def end(self):
+        self.client.shutdown(socket.SHUT_WR)
+        self.replies.read()
+        if self.running.wait():
+            stop(f"the server ended with status {self.running.returncode}")
+
+
 def each_waits(call, seconds):
     """How often a second a call is done, one behind the other, for so many seconds."""
     count, started = 0, time.monotonic()
@@ -137,6 +190,16 @@ def rates(program, room, seconds):
     print(f"{one_by_one(program, folder, lambda n: read(key(n % count)), seconds):12,.0f}  reads a second, one by one")
     asked = b"".join(read(key(n % count)) for n in range(20000))
     print(f"{at_once(program, folder, asked, 20000)[0]:12,.0f}  reads a second, all frames sent at once", flush=True)
+
+
+def over_port(program, room, seconds):
+    """The same over a connection."""
+    server = Connection(program, os.path.join(room, "port"))
+    server.ask(read(key(0)))
+    for what, sent in [("durable puts", lambda n: put(key(n), VALUE)), ("reads", lambda n: read(key(n % 1000)))]:
+        print(f"{each_waits(lambda n: server.ask(sent(n)), seconds):12,.0f}  {what} a second over a port, one by one")
+        print(f"{server.under_way(sent, seconds):12,.0f}  {what} a second over a port, {UNDER_WAY} under way", flush=True)
+    server.end()
 
 
 def size_of(folder):
@@ -223,6 +286,7 @@ def main():
     program = os.path.abspath(asked.program)
     with tempfile.TemporaryDirectory(prefix="hevlicar-bench-", dir=asked.folder) as room:
         rates(program, room, asked.seconds)
+        over_port(program, room, asked.seconds)
         for count in asked.keys:
             opening(program, room, count, 20 * asked.seconds)
         churned(program, room, asked.churn, 200 * asked.seconds)

@@ -4,7 +4,7 @@ import signal
 import socket
 import subprocess
 import sys
-import threading
+import time
 
 from serving import LIMIT, TOP, fail, frame, number, say
 
@@ -289,21 +289,19 @@ def faulty(start):
 
 
 def ports(program, room):
-    """The command over a connection that the built server has as its input and output, and over none."""
-    with socket.create_server(("127.0.0.1", 0)) as listener:
-        port = str(listener.getsockname()[1])
-
-        def serve():
-            for _ in range(2):
-                taken, _ = listener.accept()
-                with taken:
-                    subprocess.run([program, os.path.join(room, "port")], stdin=taken, stdout=taken, timeout=LIMIT)
-
-        server = threading.Thread(target=serve, daemon=True)
-        server.start()
-        equal("a put over a port", command(["--connect", port, "put", "a", "b"]), (0, b"", b""))
-        equal("a read over a port", command(["--connect", port, "get", "a"]), (0, b"b\n", b""))
-        server.join(LIMIT)
+    """The command over a port that the built server listens on, and over none."""
+    with socket.create_server(("127.0.0.1", 0)) as taken:
+        port = str(taken.getsockname()[1])
+    for words, wanted in [(["put", "a", "b"], (0, b"", b"")), (["get", "a"], (0, b"b\n", b""))]:
+        server = subprocess.Popen([program, os.path.join(room, "port"), "--listen", port])
+        until = time.monotonic() + LIMIT
+        found = command(["--connect", port, *words])
+        # The server listens once its folder is open.
+        while found[0] == 5 and time.monotonic() < until:
+            time.sleep(0.01)
+            found = command(["--connect", port, *words])
+        equal(f"den.py {words} over a port", found, wanted)
+        equal("a server whose client has gone", server.wait(LIMIT), 0)
     equal("a port without a server", command(["--connect", port, "get", "a"])[0], 5)
     equal("a port that is none", command(["--connect", "0", "get", "a"])[0], 2)
     say("the client over a port")

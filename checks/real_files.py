@@ -1,7 +1,8 @@
 #!/usr/bin/env python3
 """Tries the built server on real files, where no proof reaches: kills and signals in the midst of its writes, garbage,
 disks that do not take a write, requests of all kinds beside a plain map, closed descriptors, two servers on one folder,
-words that name none, the modes of what it makes, and the client of clients/den.py. Says what it did, and ends with 1 where a put that was answered is lost, or a status, a line or a file is another.
+words of all kinds, the modes of what it makes, the client of clients/den.py, a port with clients
+that go away, and a configuration from a file. Says what it did, and ends with 1 where a put that was answered is lost, or a status, a line or a file is another.
 
 A kill leaves what the operating system was handed, synced or not: it shows the order of writes and replies, and the opening
 of what stands there, and not that a sync was made.
@@ -22,6 +23,7 @@ import answers
 import clients
 import descriptors
 import faults
+import listening
 import stops
 import two_servers
 from serving import TOP, fail, say
@@ -45,6 +47,7 @@ def try_all(program, room):
     descriptors.descriptors(program, room)
     two_servers.two_servers(program, room)
     clients.clients(program, room)
+    listening.listening(program, room)
     answers.whole_runs(program, room, draw)
     answers.stopped_runs(program, room, draw)
     stops.signals(program, room, draw)

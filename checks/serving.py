@@ -73,10 +73,11 @@ def as_nobody():
         os.setuid(NOBODY)
 
 
-def run(program, folder, frames, before=as_nobody, **streams):
-    """The status, the output and the lines of a run to the end of these frames. `before` is called before it starts."""
+def run(program, folder, frames, before=as_nobody, words=(), **streams):
+    """The status, the output and the lines of a run to the end of these frames, with more words behind the folder's. `before` is called
+    before it starts."""
     how = {"input": b"".join(frames), "stdout": subprocess.PIPE, "stderr": subprocess.PIPE, **streams}
-    ended = subprocess.run([program, folder], preexec_fn=before, timeout=LIMIT, **how)
+    ended = subprocess.run([program, folder, *words], preexec_fn=before, timeout=LIMIT, **how)
     return ended.returncode, ended.stdout or b"", ended.stderr
 
 
