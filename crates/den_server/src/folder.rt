@@ -20,6 +20,7 @@ ghost use Rattle.den_core.specs.Cores.{solo_view};
 ghost use Rattle.den_state.specs.Machine.{AtRest};
 ghost use Rattle.den_core.specs.Parts.{AllRest};
 ghost use Rattle.den_server.specs.Causes.{IsCatchUpTooShort, IsRunRefusal, IsUnreadFolder};
+ghost use Rattle.den_server.specs.Folder.{Gives, Reads};
 ghost use Rattle.den_server.specs.Opening.{refusal_in, AllReady, IsRead, IsUnwritten, Settles, SurvivesOpening, held_weight, opened_weight};
 
 use den_codec::{Error, Label, NodeMeta, RaftNodeConfig};
@@ -127,6 +128,42 @@ fn open_stores<D: Disk>(
     }
 }
 
+/// The stores of a folder as its files gave them, and a core that leads alone.
+#[derive(Drop)]
+pub struct FolderParts {
+    pub log: FileLogStore,
+    pub meta: FileMetaStore,
+    pub state: FileStateMachine,
+    pub core: SoloCore,
+}
+
+/// Opens log, hard state and map of a folder, in this order, for an engine of one's own. Nothing is written. `DataCorruption` where
+/// a file cannot be right, `StorageIoError` where the disk's count of faults rose; else memory is wanting.
+pub fn open_parts<D: Disk>(
+    alloc: Global,
+    disk: &mut D,
+    config: &RaftNodeConfig,
+) -> Result<FolderParts, Error>
+    ensures reads { Reads D.Disk disk.old disk.new (IsOk result) }
+    ensures gives { IfOk result (Gives D.Disk disk.old disk.new config.now) }
+    ensures refused { IfErr result (IsUnreadFolder (Rose (D.faults disk.old) (D.faults disk.new)) (IsTrue (D.kind disk.old).tells) (refusal_in config.now.raft.lease.enabled (D.content disk.old).reading)) }
+{
+    let prepared = match prepare(alloc, config) {
+        Ok(prepared) => prepared,
+        Err(error) => return Err(error),
+    };
+    let stores = match open_stores(alloc, disk, prepared.data_dir, prepared.lease) {
+        Ok(stores) => stores,
+        Err(error) => return Err(error),
+    };
+    Ok(FolderParts {
+        log: stores.log,
+        meta: stores.meta,
+        state: stores.state,
+        core: prepared.core,
+    })
+}
+
 /// Opens log, hard state and map of a folder, in this order, and brings them together. Files that stand for nothing, and
 /// those that ask for a lease or leave no term or index, are refused, with nothing written.
 pub fn open_folder<D: Disk>(
@@ -157,21 +194,17 @@ pub fn open_folder<D: Disk>(
     ensures untouched { (e : Error) → IsTrue (D.kind disk.old).tells → refusal_in config.now.raft.lease.enabled (D.content disk.old).reading ≡ Some e
         → IsUnwritten (D.content disk.old) (D.content disk.new) (NoNewImages (D.images disk.old) (D.images disk.new) (D.moment disk.old) (D.moment disk.new)) }
 {
-    let prepared = match prepare(alloc, config) {
-        Ok(prepared) => prepared,
-        Err(error) => return Err(error),
-    };
-    let stores = match open_stores(alloc, disk, prepared.data_dir, prepared.lease) {
-        Ok(stores) => stores,
+    let parts = match open_parts(alloc, disk, config) {
+        Ok(parts) => parts,
         Err(error) => return Err(error),
     };
     recover(
         alloc,
         disk,
-        stores.log,
-        stores.meta,
-        stores.state,
-        prepared.core,
+        parts.log,
+        parts.meta,
+        parts.state,
+        parts.core,
         config,
     )
 }

@@ -11,6 +11,7 @@
 //! `StandaloneEngine::run_custom` serves over stores, a state machine and a core of the caller's own. What it promises is of
 //! what these hold as they are handed in: each promise is a definition of specs/Custom.antt. What is sent it says whether
 //! the stores tell what their files give or not; what the files stand for only where they tell it.
+//! `open_parts` gives the stores of a folder, for an engine of one's own: specs/Folder.antt.
 //! `StandaloneEngine::run_with` reads the configuration from a source, and runs under it: specs/Configured.antt.
 #![tactic(auto)]
 
@@ -20,4 +21,5 @@ mod default;
 mod folder;
 mod standalone;
 
+pub use folder::{FolderParts, open_parts};
 pub use standalone::StandaloneEngine;

@@ -33,52 +33,45 @@ pub returns-in-Err-clause-opening : goal.returns-in-Err-clause-opening
 returns-in-Err-clause-opening g c = λ kept told stands.
     let D = g.D.Disk in
     let disk = c.args.disk.now in
-    settled_survives durable_in (D.images disk) (D.images disk) (D.moment disk) (D.moment disk) _ _ (D.content disk).reading (entered c.args.config.now kept) stands (no_call (D.images disk) (D.moment disk))
-    (never_settles (D.images disk) (D.moment disk) (D.moment disk) _ _ (D.content disk).reading (omega arith) (λ ok. cc ok) refl)
-
-pub returns-in-Err-open_stores-clause-opening : goal.returns-in-Err-open_stores-clause-opening
-returns-in-Err-open_stores-clause-opening g c = λ kept told stands.
-    let D = g.D.Disk in
-    let disk = c.args.disk.now in
-    let mid = c.open_stores.new.disk in
-    settled_survives durable_in (D.images disk) (D.images mid) (D.moment disk) (D.moment mid) _ _ (D.content disk).reading (entered c.args.config.now kept) stands (c.open_stores.ensures.images told)
-    (c.in-Err-open_stores.ensures.settles told)
+    let mid = c.open_parts.new.disk in
+    settled_survives durable_in (D.images disk) (D.images mid) (D.moment disk) (D.moment mid) _ _ (D.content disk).reading (entered c.args.config.now kept) stands (c.in-Err.ensures.reads.images told)
+    (c.in-Err.ensures.reads.settles told)
 
 pub returns-clause-opening : goal.returns-clause-opening
 returns-clause-opening g c = λ kept told stands.
     let D = g.D.Disk in
     let disk = c.args.disk.now in
-    let mid = c.open_stores.new.disk in
-    let told1 : IsTrue (D.kind mid).tells = subst (λ (k : Kind). IsTrue k.tells) (sym c.open_stores.ensures.disk.same) told in
+    let mid = c.open_parts.new.disk in
+    let told1 : IsTrue (D.kind mid).tells = subst (λ (k : Kind). IsTrue k.tells) (sym c.in-Ok.ensures.reads.goes_on.same) told in
     let goes = c.recover.ensures.disk.told told1 in
     let start = entered c.args.config.now kept in
-    let core = c.in-Ok.prepared.core in
-    let joint = read_durable (D.content disk).reading _ _ _ (c.in-Ok-open_stores.ensures.read told) in
+    let core = c.in-Ok.parts.core in
+    let joint = read_durable (D.content disk).reading _ _ _ (c.in-Ok.ensures.gives.read told) in
     opening_then durable_in (D.images disk) (D.images mid) (D.images c.recover.new.disk) (D.moment disk) (D.moment mid) (D.moment c.recover.new.disk) _ _ _ _ [] start
-    (record { durable = kept; running = running_under c.args.config.now (solo_view core.node.id core.term) (state_settings c.in-Ok-open_stores.stores.state).leased }) (λ (k : Kv). []) refl goes.later goes.past
-    (settled_survives durable_in (D.images disk) (D.images mid) (D.moment disk) (D.moment mid) _ _ (D.content disk).reading start stands (c.open_stores.ensures.images told)
-    (c.in-Ok-open_stores.ensures.settles told))
+    (record { durable = kept; running = running_under c.args.config.now (solo_view core.node.id core.term) (state_settings c.in-Ok.parts.state).leased }) (λ (k : Kv). []) refl goes.later goes.past
+    (settled_survives durable_in (D.images disk) (D.images mid) (D.moment disk) (D.moment mid) _ _ (D.content disk).reading start stands (c.in-Ok.ensures.reads.images told)
+    (c.in-Ok.ensures.reads.settles told))
     (ap (λ (r : Running). record { durable = kept; running = r })
-    (running_is c.args.config.now (solo_view core.node.id core.term) _ c.in-Ok.ensures.core (c.in-Ok-open_stores.ensures.leased ∙ c.in-Ok.ensures.leased)))
+    (running_is c.args.config.now (solo_view core.node.id core.term) _ c.in-Ok.ensures.gives.core (c.in-Ok.ensures.gives.leased)))
     (c.recover.ensures.survives kept told1 (tt, tt, tt) (sym joint ∙ stands))
 
 -- ---- what the engine holds
 
 pub returns-clause-kv : goal.returns-clause-kv
 returns-clause-kv g c = if_ok_two c.recover.result _ _ _
-    (λ engine opened running kept told stands. let core = c.in-Ok.prepared.core in kv_is _ kept _
-    (some_same _ _ kept opened (sym (read_durable (g.D.Disk.content c.args.disk.now).reading _ _ _ (c.in-Ok-open_stores.ensures.read told)) ∙ stands))
-    (running ∙ running_is c.args.config.now (solo_view core.node.id core.term) _ c.in-Ok.ensures.core (c.in-Ok-open_stores.ensures.leased ∙ c.in-Ok.ensures.leased)))
+    (λ engine opened running kept told stands. let core = c.in-Ok.parts.core in kv_is _ kept _
+    (some_same _ _ kept opened (sym (read_durable (g.D.Disk.content c.args.disk.now).reading _ _ _ (c.in-Ok.ensures.gives.read told)) ∙ stands))
+    (running ∙ running_is c.args.config.now (solo_view core.node.id core.term) _ c.in-Ok.ensures.gives.core (c.in-Ok.ensures.gives.leased)))
     c.recover.ensures.opened c.recover.ensures.running
 
 pub returns-clause-leads : goal.returns-clause-leads
 returns-clause-leads g c = if_ok_weaker c.recover.result _ _
-    (λ engine running. let core = c.in-Ok.prepared.core in leads_of _ c.args.config.now
-    (running ∙ running_is c.args.config.now (solo_view core.node.id core.term) _ c.in-Ok.ensures.core (c.in-Ok-open_stores.ensures.leased ∙ c.in-Ok.ensures.leased)))
+    (λ engine running. let core = c.in-Ok.parts.core in leads_of _ c.args.config.now
+    (running ∙ running_is c.args.config.now (solo_view core.node.id core.term) _ c.in-Ok.ensures.gives.core (c.in-Ok.ensures.gives.leased)))
     c.recover.ensures.running
 
 pub returns-clause-log : goal.returns-clause-log
-returns-clause-log g c = if_ok_weaker c.recover.result _ _ (λ engine is told. (c.in-Ok-open_stores.ensures.read told).log ∙ ap Ok (sym is)) c.recover.ensures.log
+returns-clause-log g c = if_ok_weaker c.recover.result _ _ (λ engine is told. (c.in-Ok.ensures.gives.read told).log ∙ ap Ok (sym is)) c.recover.ensures.log
 
 -- what the stores weighed, and the entries that were applied
 lighter : (held entries more bytes : ℕ) → held ≤ 768 + 4 * bytes → entries ≤ bytes → more ≤ entries → held + store_rise more + trim_rise ≤ opened_weight bytes
@@ -87,11 +80,11 @@ lighter held entries more bytes stores all some = omega (arith, stores, all, som
 pub returns-clause-weight : goal.returns-clause-weight
 returns-clause-weight g c = if_ok_weaker c.recover.result _ _
     (λ engine weight told.
-    let stores = c.in-Ok-open_stores.stores in
+    let stores = c.in-Ok.parts in
     let more = entries_size (above (state_map stores.state).mark.index (log_shown stores.log).value.entries) in
     let got : held_weight engine.log engine.meta engine.state ≤ held_weight stores.log stores.meta stores.state + store_rise more + trim_rise = weight in
     let most = lighter (held_weight stores.log stores.meta stores.state) (entries_size (log_shown stores.log).value.entries) more (files_size (g.D.Disk.content c.args.disk.now).reading)
-    (c.in-Ok-open_stores.ensures.weight told) (c.in-Ok-open_stores.ensures.entries told) (above_size (state_map stores.state).mark.index (log_shown stores.log).value.entries) in
+    (c.in-Ok.ensures.gives.weight told) (c.in-Ok.ensures.gives.entries told) (above_size (state_map stores.state).mark.index (log_shown stores.log).value.entries) in
     le_trans got most)
     c.recover.ensures.weight
 
@@ -99,82 +92,78 @@ returns-clause-weight g c = if_ok_weaker c.recover.result _ _
 
 pub returns-clause-accepted : goal.returns-clause-accepted
 returns-clause-accepted g c = if_ok_on c.recover.result _ _
-    (λ engine none told. read_refusal c.args.config.now.raft.lease.enabled (state_settings c.in-Ok-open_stores.stores.state).leased (g.D.Disk.content c.args.disk.now).reading _ _ _ _
-    (c.in-Ok-open_stores.ensures.leased ∙ c.in-Ok.ensures.leased) (c.in-Ok-open_stores.ensures.read told) (c.in-Ok-open_stores.ensures.place told) ∙ none)
+    (λ engine none told. read_refusal c.args.config.now.raft.lease.enabled (state_settings c.in-Ok.parts.state).leased (g.D.Disk.content c.args.disk.now).reading _ _ _ _
+    (c.in-Ok.ensures.gives.leased) (c.in-Ok.ensures.gives.read told) (c.in-Ok.ensures.gives.place told) ∙ none)
     c.recover.ensures.unrefused
 
-pub returns-in-Err-open_stores-clause-refused : goal.returns-in-Err-open_stores-clause-refused
-returns-in-Err-open_stores-clause-refused g c =
+pub returns-in-Err-clause-refused : goal.returns-in-Err-clause-refused
+returns-in-Err-clause-refused g c =
     let D = g.D.Disk in
     let disk = c.args.disk.now in
-    folder_refused (Rose (D.faults disk) (D.faults c.open_stores.new.disk)) (IsTrue (D.kind disk).tells) (refusal_in c.args.config.now.raft.lease.enabled (D.content disk).reading)
-    (λ most needed. IsCatchUpTooShort (D.content disk).reading most needed (D.content c.open_stores.new.disk).reading) (D.kind disk).limit (files_size (D.content disk).reading)
-    c.in-Err-open_stores.error
-    (subst (λ (leased : Bool). IsUnreadFolder (Rose (D.faults disk) (D.faults c.open_stores.new.disk)) (IsTrue (D.kind disk).tells) (refusal_in leased (D.content disk).reading) c.in-Err-open_stores.error)
-    c.in-Ok.ensures.leased c.in-Err-open_stores.ensures.refused)
+    folder_refused (Rose (D.faults disk) (D.faults c.open_parts.new.disk)) (IsTrue (D.kind disk).tells) (refusal_in c.args.config.now.raft.lease.enabled (D.content disk).reading)
+    (λ most needed. IsCatchUpTooShort (D.content disk).reading most needed (D.content c.open_parts.new.disk).reading) (D.kind disk).limit (files_size (D.content disk).reading)
+    c.in-Err.error
+    c.in-Err.ensures.refused
 
 pub returns-clause-refused : goal.returns-clause-refused
 returns-clause-refused g c = if_err_two c.recover.result _ _ _
     (λ e failure full.
     let D = g.D.Disk in
     let disk = c.args.disk.now in
-    let stores = c.in-Ok-open_stores.stores in
-    let rose = Rose (D.faults c.open_stores.new.disk) (D.faults c.recover.new.disk) in
+    let stores = c.in-Ok.parts in
+    let rose = Rose (D.faults c.open_parts.new.disk) (D.faults c.recover.new.disk) in
     let enabled = c.args.config.now.raft.lease.enabled in
     let leased = (state_settings stores.state).leased in
     let refusal = opening_refusal leased (file_place stores.log) (log_shown stores.log).value (meta_shown stores.meta).value (state_map stores.state) in
     let entries = (log_shown stores.log).value.entries in
     let more = entries_size (above (state_map stores.state).mark.index entries) in
     let weight = held_weight stores.log stores.meta stores.state + store_rise more + trim_rise in
-    let role = (solo_view c.in-Ok.prepared.core.node.id c.in-Ok.prepared.core.term).role in
+    let role = (solo_view c.in-Ok.parts.core.node.id c.in-Ok.parts.core.term).role in
     let most_kept = c.args.config.now.raft.max_log_entries in
     let chunk = above (state_map stores.state).mark.index entries in
     let sizes = opened_sizes role most_kept (log_shown stores.log).value (state_map stores.state) chunk in
     failure_refused rose _ (IsTrue (D.kind disk).tells) _ (refusal_in enabled (D.content disk).reading)
     (λ needed. IsSlotTooShort sizes weight needed (D.content c.recover.new.disk).reading) (λ most needed. IsCatchUpTooShort (D.content disk).reading most needed (D.content c.recover.new.disk).reading) (D.kind disk).limit weight (files_size (D.content disk).reading) leased (file_place stores.log)
     (log_shown stores.log).value (meta_shown stores.meta).value (state_map stores.state) e
-    (λ r. rose_then _ _ _ c.open_stores.ensures.disk.counts r) (λ told. (told, (tt, tt, tt)))
+    (λ r. rose_then _ _ _ c.in-Ok.ensures.reads.goes_on.counts r) (λ told. (told, (tt, tt, tt)))
     (λ needed told le short. record {
       log = (log_shown stores.log).value;
       map = state_map stores.state;
-      log_read = (c.in-Ok-open_stores.ensures.read told).log;
-      map_read = (c.in-Ok-open_stores.ensures.read told).map;
+      log_read = (c.in-Ok.ensures.gives.read told).log;
+      map_read = (c.in-Ok.ensures.gives.read told).map;
       short = short_slot sizes (chunk_sizes (state_map stores.state) chunk) weight (most_run (files_size (D.content disk).reading) 0) needed (D.content c.recover.new.disk).reading
           (led_among role most_kept (log_shown stores.log).value refl (state_map stores.state) chunk) le short;
     })
-    (λ told. read_refusal enabled leased (D.content disk).reading _ _ _ _ (c.in-Ok-open_stores.ensures.leased ∙ c.in-Ok.ensures.leased) (c.in-Ok-open_stores.ensures.read told) (c.in-Ok-open_stores.ensures.place told))
+    (λ told. read_refusal enabled leased (D.content disk).reading _ _ _ _ (c.in-Ok.ensures.gives.leased) (c.in-Ok.ensures.gives.read told) (c.in-Ok.ensures.gives.place told))
     (λ told. lighter (held_weight stores.log stores.meta stores.state) (entries_size entries) more (files_size (D.content disk).reading)
-    (c.in-Ok-open_stores.ensures.weight told) (c.in-Ok-open_stores.ensures.entries told) (above_size (state_map stores.state).mark.index entries))
-    (subst (λ (k : Kind). IsOpeningFailure rose k.limit refusal e) c.open_stores.ensures.disk.same failure)
-    (subst (λ (k : Kind). IsFullBy (IsTrue k.tells × (Unit {0} × Unit {0} × Unit {0})) (λ needed. IsSlotTooShort sizes weight needed (D.content c.recover.new.disk).reading) k.limit weight e) c.open_stores.ensures.disk.same full))
+    (c.in-Ok.ensures.gives.weight told) (c.in-Ok.ensures.gives.entries told) (above_size (state_map stores.state).mark.index entries))
+    (subst (λ (k : Kind). IsOpeningFailure rose k.limit refusal e) c.in-Ok.ensures.reads.goes_on.same failure)
+    (subst (λ (k : Kind). IsFullBy (IsTrue k.tells × (Unit {0} × Unit {0} × Unit {0})) (λ needed. IsSlotTooShort sizes weight needed (D.content c.recover.new.disk).reading) k.limit weight e) c.in-Ok.ensures.reads.goes_on.same full))
     c.recover.ensures.refused c.recover.ensures.full
 
 pub returns-clause-untouched : goal.returns-clause-untouched
 returns-clause-untouched g c = λ e told is.
     let D = g.D.Disk in
     let first = c.args.disk.now in
-    let mid = c.open_stores.new.disk in
-    let stores = c.in-Ok-open_stores.stores in
+    let mid = c.open_parts.new.disk in
+    let stores = c.in-Ok.parts in
     let enabled = c.args.config.now.raft.lease.enabled in
     let leased = (state_settings stores.state).leased in
     let some = some_refused (refusal_in enabled (D.content first).reading)
     (opening_refusal leased (file_place stores.log) (log_shown stores.log).value (meta_shown stores.meta).value (state_map stores.state)) e
-    (read_refusal enabled leased (D.content first).reading _ _ _ _ (c.in-Ok-open_stores.ensures.leased ∙ c.in-Ok.ensures.leased) (c.in-Ok-open_stores.ensures.read told) (c.in-Ok-open_stores.ensures.place told)) is in
+    (read_refusal enabled leased (D.content first).reading _ _ _ _ (c.in-Ok.ensures.gives.leased) (c.in-Ok.ensures.gives.read told) (c.in-Ok.ensures.gives.place told)) is in
     subst (λ d. IsUnwritten (D.content first) (D.content d) (NoNewImages (D.images first) (D.images d) (D.moment first) (D.moment d))) (sym (c.recover.ensures.untouched some))
-    (record { content = c.open_stores.ensures.spares told; images = c.open_stores.ensures.images told })
+    (record { content = c.in-Ok.ensures.reads.spares told; images = c.in-Ok.ensures.reads.images told })
 
 -- ---- the files of the snapshot
 
 pub returns-in-Err-clause-snapshot : goal.returns-in-Err-clause-snapshot
-returns-in-Err-clause-snapshot g c = λ told. spares_still snapshot_family g.D.Disk.content g.D.Disk.moment g.D.Disk.images c.args.disk.now
-
-pub returns-in-Err-open_stores-clause-snapshot : goal.returns-in-Err-open_stores-clause-snapshot
-returns-in-Err-open_stores-clause-snapshot g c = λ told.
-    spares_read snapshot_family g.D.Disk.content g.D.Disk.moment g.D.Disk.images c.args.disk.now c.open_stores.new.disk (c.open_stores.ensures.spares told) (c.open_stores.ensures.images told)
+returns-in-Err-clause-snapshot g c = λ told.
+    spares_read snapshot_family g.D.Disk.content g.D.Disk.moment g.D.Disk.images c.args.disk.now c.open_parts.new.disk (c.in-Err.ensures.reads.spares told) (c.in-Err.ensures.reads.images told)
 
 pub returns-clause-snapshot : goal.returns-clause-snapshot
 returns-clause-snapshot g c =
-    spares_twice g.D.Disk.kind g.D.Disk.content g.D.Disk.moment g.D.Disk.images g.D.Disk.faults snapshot_family c.args.disk.now c.open_stores.new.disk c.recover.new.disk
-    c.open_stores.ensures.disk c.recover.ensures.disk
-    (λ told. spares_read snapshot_family g.D.Disk.content g.D.Disk.moment g.D.Disk.images c.args.disk.now c.open_stores.new.disk (c.open_stores.ensures.spares told) (c.open_stores.ensures.images told))
+    spares_twice g.D.Disk.kind g.D.Disk.content g.D.Disk.moment g.D.Disk.images g.D.Disk.faults snapshot_family c.args.disk.now c.open_parts.new.disk c.recover.new.disk
+    c.in-Ok.ensures.reads.goes_on c.recover.ensures.disk
+    (λ told. spares_read snapshot_family g.D.Disk.content g.D.Disk.moment g.D.Disk.images c.args.disk.now c.open_parts.new.disk (c.in-Ok.ensures.reads.spares told) (c.in-Ok.ensures.reads.images told))
     c.recover.ensures.snapshot
