@@ -1,11 +1,10 @@
 -- What a builder lacks, and how a call of one is refused.
-use Rattle.std.specs.Prelude.{[], Option, Some, None, Result, Ok, Err}
+use Rattle.std.specs.Prelude.{Option, Some, None, Result, Ok, Err}
 use Rattle.den_codec.specs.declared.error.Error.{Error}
-use Rattle.den_config.specs.Sources.{IsSourceRefusal, configuration_in}
 use Rattle.den_node.specs.declared.error.MissingPart.{MissingPart}
 use Rattle.den_node.specs.declared.error.MissingPart.TheVariants.{StateMachine, StorageEngine}
 use Rattle.den_node.specs.declared.error.NodeError.{NodeError}
-use Rattle.den_node.specs.declared.error.NodeError.TheVariants.{Engine, NodeStartFailed}
+use Rattle.den_node.specs.declared.error.NodeError.TheVariants.{Engine, Fatal, NodeStartFailed}
 
 -- the part that is not set, the state machine first
 abbrev pub missing_part : {E M : Type 0} → Option E → Option M → Option MissingPart
@@ -22,7 +21,4 @@ built (Some part) builder = Err (NodeStartFailed part)
 abbrev pub FailsAs : (Error → Type 0) → NodeError → Type 0
 FailsAs cause (Engine e) = cause e
 FailsAs cause (NodeStartFailed part) = ⊥
-
--- a refusal of a source of which nothing is told: want of memory, a fault, or a key
-abbrev pub IsOfSource : Error → Type 0
-IsOfSource = IsSourceRefusal (Unit {0}) ⊥ (configuration_in [])
+FailsAs cause Fatal = ⊥

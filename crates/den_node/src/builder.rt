@@ -1,12 +1,13 @@
 //! The parts of a node, before it is started.
-ghost use Rattle.std.specs.Prelude.{◌≡◌, IsTrue, IfOk, IfErr, Some, None};
+ghost use Rattle.std.specs.Prelude.{◌≡◌, IsTrue, IfOk, IfErr, IfSome, Some, None};
+ghost use Rattle.std.proofs.Common.{inl, inr};
 ghost use Rattle.den_codec.specs.Standard.{IsStandard};
 ghost use Rattle.den_config.specs.Rows.{values_of};
 ghost use Rattle.den_config.specs.Sources.{IsSourceRefusal, configuration_in};
 ghost use Rattle.den_disk.specs.Goes.{Rose, SourceGoesOn};
 ghost use Rattle.den_codec.specs.declared.error.Error.TheVariants.{OutOfMemory};
 ghost use Rattle.den_node.specs.declared.error.NodeError.TheVariants.{Engine};
-ghost use Rattle.den_node.specs.Building.{FailsAs, IsOfSource, built, missing_part};
+ghost use Rattle.den_node.specs.Building.{FailsAs, built, missing_part};
 
 use crate::{MissingPart, NodeError};
 use den_codec::{ClusterConfig, RaftConfig, RaftNodeConfig};
@@ -30,9 +31,17 @@ impl<E: Drop, M: Drop> NodeBuilder<E, M> {
         alloc: Global,
         conf: Option<&mut S>,
     ) -> Result<NodeBuilder<E, M>, NodeError>
+        // Without a source the configuration is the default one, and memory alone is wanting.
         ensures defaults { conf.entry ≡ None → IfOk result (λ b. IsStandard b.config) }
+        ensures wanting { conf.entry ≡ None → IfErr result (λ e. e ≡ Engine OutOfMemory) }
+
+        // With one it is that of the source's bytes, where the source tells them.
+        ensures given { IfSome conf.entry (λ s. IfOk result (λ b. IsTrue (S.tells s.now) → configuration_in (S.left s.now) ≡ Ok (values_of b.config))) }
         ensures unset { IfOk result (λ b. (b.storage ≡ None) × (b.machine ≡ None)) }
-        ensures refused { IfErr result (FailsAs IsOfSource) }
+
+        // Each refusal has its cause, read on the source as it is left.
+        ensures cause { IfSome conf.entry (λ s. (f : _) → conf.exit ≡ inr (inl f) → IfErr result (FailsAs (IsSourceRefusal (Rose (S.faults s.now) (S.faults f.0.now))
+            (IsTrue (S.tells s.now)) (configuration_in (S.left s.now))))) }
     {
         match conf {
             Some(conf) => NodeBuilder::from_source(alloc, conf),
@@ -72,6 +81,7 @@ impl<E: Drop, M: Drop> NodeBuilder<E, M> {
         cluster_config: ClusterConfig,
     ) -> Result<NodeBuilder<E, M>, NodeError>
         ensures cluster { IfOk result (λ b. b.config.cluster ≡ cluster_config) }
+        ensures defaults { IfOk result (λ b. (standard : RaftNodeConfig) × IsStandard standard × (b.config ≡ record standard { cluster = cluster_config })) }
         ensures unset { IfOk result (λ b. (b.storage ≡ None) × (b.machine ≡ None)) }
         ensures refused { IfErr result (λ e. e ≡ Engine OutOfMemory) }
     {

@@ -12,7 +12,7 @@ pub enum MissingPart {
     StorageEngine,
 }
 
-/// Why a call of a builder or a notifier is refused, one variant a cause.
+/// Why a call of a builder, a notifier or an engine is refused, one variant a cause.
 #[derive(Clone, Copy, Debug, PartialEq, Eq, Thrown)]
 pub enum NodeError {
     /// A part is not set.
@@ -21,6 +21,9 @@ pub enum NodeError {
     /// The configuration, the stores or the engine are refused, or memory is wanting.
     #[error("{0}")]
     Engine(Error),
+    /// Who leads was looked for without a look, or nobody was known to.
+    #[error("no leader was found")]
+    Fatal,
 }
 
 impl From<Error> for NodeError {

@@ -10,7 +10,9 @@
 //! 3. What `start` leaves is what `begin` leaves, of the disk that the node or the refusal holds: `Begun` in
 //!    specs/Starting.antt.
 //! 4. `run` sends a front of what the turns of its input answer, and all of it at Ok: specs/Running.antt.
-//! 5. What a receiver of the leader or of the members finds is told by no contract.
+//! 5. `begin_node` does the same over stores that were opened otherwise, and `Node::into_parts` gives all back, for an engine that is
+//!    embedded.
+//! 6. What a receiver of the leader or of the members finds is told by no contract.
 //!
 //! `LeaderNotifier::{send, subscribe}` and the two calls of `Node` that make a receiver may wait for one another, and take the
 //! handle `rt` first.
@@ -28,6 +30,6 @@ mod start;
 
 pub use builder::NodeBuilder;
 pub use error::{MissingPart, NodeError};
-pub use node::Node;
+pub use node::{Node, NodeParts, Told};
 pub use notifier::LeaderNotifier;
-pub use start::Unstarted;
+pub use start::{Unstarted, begin_node};

@@ -31,9 +31,19 @@ pub struct Node<D, G, T, M, K, C> {
     pub(crate) alloc: Global,
 }
 
+/// The parts of a node.
+#[derive(Drop)]
+pub struct NodeParts<D, G, T, M, K, C> {
+    pub engine: Engine<G, T, M, K>,
+    pub disk: D,
+    pub clock: C,
+    pub node_id: u32,
+    pub told: Told,
+}
+
 /// Who is told of the leader and of the members. No channel is made to any.
 #[derive(Drop)]
-pub(crate) struct Told {
+pub struct Told {
     leader: LeaderNotifier,
     membership: RaftMembership<u32>,
 }
@@ -66,6 +76,30 @@ impl Told {
             Err(_) => Err(Error::OutOfMemory),
         }
     }
+
+    /// A receiver of who leads, which finds the present leader. It may wait, and is refused for want of memory alone.
+    pub fn leader_change_notifier<W: Wait>(
+        &self,
+        rt: &W,
+    ) -> Result<LatestReceiver<Option<LeaderInfo>>, NodeError>
+        ensures { IfErr result (λ e. e ≡ engine_error OutOfMemory) }
+    {
+        self.leader.subscribe(rt)
+    }
+
+    /// A receiver of the members, which finds those of the configuration. It may wait, and is refused for want of memory
+    /// alone.
+    pub fn membership_change_notifier<W: Wait>(
+        &self,
+        rt: &W,
+    ) -> Result<LatestReceiver<MembershipSnapshot>, NodeError>
+        ensures { IfErr result (λ e. e ≡ engine_error OutOfMemory) }
+    {
+        match self.membership.subscribe_membership(rt) {
+            Ok(receiver) => Ok(receiver),
+            Err(_) => Err(NodeError::Engine(Error::OutOfMemory)),
+        }
+    }
 }
 
 impl<D, G, T, M, K, C> Node<D, G, T, M, K, C> {
@@ -83,7 +117,7 @@ impl<D, G, T, M, K, C> Node<D, G, T, M, K, C> {
     ) -> Result<LatestReceiver<Option<LeaderInfo>>, NodeError>
         ensures { IfErr result (λ e. e ≡ engine_error OutOfMemory) }
     {
-        self.told.leader.subscribe(rt)
+        self.told.leader_change_notifier(rt)
     }
 
     /// A receiver of the members, which finds those of the configuration. It may wait, and is refused for want of memory
@@ -94,9 +128,19 @@ impl<D, G, T, M, K, C> Node<D, G, T, M, K, C> {
     ) -> Result<LatestReceiver<MembershipSnapshot>, NodeError>
         ensures { IfErr result (λ e. e ≡ engine_error OutOfMemory) }
     {
-        match self.told.membership.subscribe_membership(rt) {
-            Ok(receiver) => Ok(receiver),
-            Err(_) => Err(NodeError::Engine(Error::OutOfMemory)),
+        self.told.membership_change_notifier(rt)
+    }
+
+    /// The node taken apart, for those who make calls of its engine themselves.
+    pub fn into_parts(self) -> NodeParts<D, G, T, M, K, C>
+        ensures { result ≡ record { engine = self.engine; disk = self.disk; clock = self.clock; node_id = self.node_id; told = self.told } }
+    {
+        NodeParts {
+            engine: self.engine,
+            disk: self.disk,
+            clock: self.clock,
+            node_id: self.node_id,
+            told: self.told,
         }
     }
 }

@@ -53,8 +53,9 @@ fn open<D: Disk, G: LogStore<D>, T: MetaStore<D>, M: StateMachine<D>, K: Core<D>
     }
 }
 
-/// Opens an engine over stores, and keeps it with the disk and the clock. On a refusal the disk is handed back.
-fn begin_node<
+/// Opens an engine over stores as they were opened, as `Engine::begin` of `den_core` does, and keeps it with the disk and the
+/// clock. On every refusal the disk is handed back; `Engine` has the cause.
+pub fn begin_node<
     D: Disk,
     G: LogStore<D>,
     T: MetaStore<D>,
@@ -68,29 +69,27 @@ fn begin_node<
     meta: T,
     state: M,
     core: K,
-    config: RaftNodeConfig,
+    config: &RaftNodeConfig,
     clock: C,
 ) -> Result<Node<D, G, T, M, K, C>, Unstarted<D>>
     requires ready { AreReady (handed G.LogStore T.MetaStore M.StateMachine log meta state) }
     requires rests { IsTrue (D.kind disk).tells
         → AreAtRest (handed G.LogStore T.MetaStore M.StateMachine log meta state) (D.content disk) }
     ensures begun { IfOk result (λ node. Begun D.Disk C.Clock (handed G.LogStore T.MetaStore M.StateMachine log meta state)
-        (K.view core) config disk node.disk clock node.clock) }
+        (K.view core) config.now disk node.disk clock node.clock) }
     ensures opened { IfOk result (λ node. Opens D.Disk C.Clock (handed G.LogStore T.MetaStore M.StateMachine log meta state)
-        (K.view core) config disk node.disk clock node.clock (⟦<Engine<G, T, M, K> as Stepper<D>>⟧.seen node.engine)) }
+        (K.view core) config.now disk node.disk clock node.clock (⟦<Engine<G, T, M, K> as Stepper<D>>⟧.seen node.engine)) }
     ensures started { IfOk result (λ node. (M.settings node.engine.state).running ≡ true) }
-    ensures named { IfOk result (λ node. (node.node_id ≡ config.cluster.node_id) × (node.limit ≡ config.network.max_frame_size)) }
+    ensures named { IfOk result (λ node. (node.node_id ≡ config.now.cluster.node_id) × (node.limit ≡ config.now.network.max_frame_size)) }
     ensures refused { IfErr result (λ u. (after : C)
         × Begun D.Disk C.Clock (handed G.LogStore T.MetaStore M.StateMachine log meta state)
-        (K.view core) config disk u.disk clock after
+        (K.view core) config.now disk u.disk clock after
         × FailsAs (FailsToOpen D.Disk C.Clock (handed G.LogStore T.MetaStore M.StateMachine log meta state)
-        (K.view core) config disk u.disk clock after) u.error) }
+        (K.view core) config.now disk u.disk clock after) u.error) }
 {
     let mut disk = disk;
     let mut clock = clock;
-    match open(
-        alloc, &mut disk, log, meta, state, core, &config, &mut clock,
-    ) {
+    match open(alloc, &mut disk, log, meta, state, core, config, &mut clock) {
         Ok((engine, told)) => Ok(Node {
             engine,
             disk,
@@ -162,6 +161,6 @@ impl<E, M> NodeBuilder<E, M> {
             return Err(Unstarted { error, disk });
         };
         let (log, meta) = storage.split();
-        begin_node(alloc, disk, log, meta, machine, core, config, clock)
+        begin_node(alloc, disk, log, meta, machine, core, &config, clock)
     }
 }
