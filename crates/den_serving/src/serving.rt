@@ -80,7 +80,8 @@ fn serve_words<S: Source, D: Disk, L: Link, C: Clock>(
 /// a folder are served from the disk through the link: under the configuration that the source's bytes give where they
 /// name a file, else under the default one. Where they name a count, that many requests are driven in memory, and the line
 /// of what came of them is sent through the link; source, disk and clock are not used. Which folder, file and port are
-/// named is the caller's part, who lends them. Words that do not parse are answered 2, with nothing touched.
+/// named is the caller's part, who lends them. Words that do not parse are answered 2, or 1
+/// where memory is wanting to read them, with nothing touched.
 pub fn serve_main<D: Disk, L: Link, C: Clock, S: Source, E: Sink>(
     alloc: Global,
     words: &[String],
