@@ -298,6 +298,8 @@ impl<D: Disk, G: LogStore<D>, T: MetaStore<D>, M: StateMachine<D>, K: Core<D>> D
         ensures first { self.new.first.value ≡ self.old.first.value }
         ensures first_disk { self.new.first_disk.value ≡ self.old.first_disk.value }
         ensures disk { GoesOn D.Disk self.old.disk self.new.disk }
+        // A desk whose history has ended makes no step.
+        ensures idle { (self.old.ended ≡ None → ⊥) → (self.new.engine ≡ self.old.engine) × (self.new.disk ≡ self.old.disk) }
         ensures untouched { has_no_entry result ≡ true → (self.new.engine ≡ self.old.engine) × (self.new.disk ≡ self.old.disk) × (self.new.ended ≡ self.old.ended) × (self.new.history.items ≡ self.old.history.items) }
         ensures added { has_no_entry result ≡ false → Adds self.old.history.items self.new.history.items self.old.ended caller moment call (Fails D.Disk ⟦<Engine<G, T, M, K> as Stepper<D>>⟧.says.told (⟦<Engine<G, T, M, K> as Stepper<D>>⟧.seen self.old.engine) self.old.disk self.new.disk moment call) result }
     {
