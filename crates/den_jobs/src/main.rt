@@ -90,9 +90,11 @@ fn lived<D: Disk + Drop, C: Clock + Drop>(
     }
 }
 
-// The default configuration, of one voter.
+// The default configuration, of one voter, with leases: a job may expire.
 fn alone(alloc: Global) -> Option<SoloConfig> {
-    RaftNodeConfig::standard(alloc).ok()?.solo().ok()
+    let mut config = RaftNodeConfig::standard(alloc).ok()?;
+    config.raft.lease.enabled = true;
+    config.solo().ok()
 }
 
 fn whole(alloc: Global) -> Option<Day> {

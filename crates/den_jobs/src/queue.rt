@@ -5,12 +5,15 @@ use den_proto::ClientApiError;
 // The value of a job that nobody has taken.
 const READY: &[u8] = b"ready";
 
-/// Adds a job, which nobody has taken.
+// How many seconds a job is kept where nobody ends it.
+const KEPT: u64 = 3600;
+
+/// Adds a job, which nobody has taken. It goes by itself after an hour.
 pub fn add<A: ClientApi>(client: &mut A, job: &[u8]) -> Result<(), ClientApiError>
     requires lawful { A.lawful client.old }
     ensures lawful { A.lawful client.new }
 {
-    client.put(job, READY)
+    client.put_with_ttl(job, READY, KEPT)
 }
 
 /// Takes a job for a worker, where nobody has it: of several workers that ask, one swap is made.
